@@ -76,12 +76,12 @@ abbrev pub with_phase : ℕ → Phase → List Session → List Session
 with_phase number now [] = []
 with_phase number now (x ∷ xs) = if x.number == number then (record x { phase = now }) ∷ xs else x ∷ with_phase number now xs
 
--- the waiting queries without the first one of this number
+-- the waiting queries without that of this session, which has one at most
 abbrev pub without_waiter : ℕ → List Waiter → List Waiter
-without_waiter query [] = []
-without_waiter query (w ∷ ws) = if w.query == query then ws else w ∷ without_waiter query ws
+without_waiter session [] = []
+without_waiter session (w ∷ ws) = if w.session == session then ws else w ∷ without_waiter session ws
 
--- the running queries without the first one of this session
+-- the running queries without that of this session, which has one at most
 abbrev pub without_runner : ℕ → List Runner → List Runner
 without_runner session [] = []
 without_runner session (r ∷ rs) = if r.session == session then rs else r ∷ without_runner session rs
@@ -97,6 +97,16 @@ is_running phase.Idle = false
 is_running phase.Waiting = false
 is_running phase.Running = true
 is_running (phase.Ended end) = false
+
+abbrev pub is_waiting : Phase → Bool
+is_waiting phase.Idle = false
+is_waiting phase.Waiting = true
+is_waiting phase.Running = false
+is_waiting (phase.Ended end) = false
+
+-- the phase of the session of this number; one that is not open has no query
+abbrev pub phase_of : List Session → ℕ → Phase
+phase_of sessions number = elim (session_called sessions number) [ Some x ↦ x.phase | None ↦ phase.Idle ]
 
 -- a query is live while its session is not idle
 abbrev pub live_queries : List Session → ℕ
