@@ -1,13 +1,14 @@
 -- Laws on names.
 use Rattle.std.specs.Prelude.{◌≡◌, ◌≢◌, Bool, true, false, refl}
-use Rattle.std.proofs.Common.{sym}
+use Rattle.std.proofs.Common.{sym, ◌∙◌}
 use Rattle.std.proofs.lemmas.Bool.Decides.{Decides-like, same_from_decides}
 use Rattle.std.proofs.lemmas.Slice.Eq.{bytes_eq-Decides}
 use mathlib.Core.HLevel.{is_prop→PathP}
 use mathlib.Core.Bool.{Bool-set}
 use Rattle.rm_base.specs.declared.name.Name.{Name}
 use Rattle.rm_base.specs.NameText.{keeps_name}
-use Rattle.rm_base.specs.Name.{same_name}
+use Rattle.rm_base.specs.Name.{same_name, name_text}
+use Rattle.rm_base.proofs.NameLemmas.{KeepsName-from, padded_unique}
 
 -- two names of the same bytes are one
 pub name-eq : (a b : Name) → a.bytes ≡ b.bytes → a ≡ b
@@ -34,3 +35,10 @@ false_unless false h = refl
 
 pub same_name-ne : (a b : Name) → a ≢ b → same_name a b ≡ false
 same_name-ne a b differ = false_unless (same_name a b) (λ h. differ (same_name-eq a b h))
+
+-- two names of the same text are one
+pub name_text-eq : (a b : Name) → name_text a ≡ name_text b → a ≡ b
+name_text-eq a b texts =
+    let x = KeepsName-from a.bytes a.kept in
+    let y = KeepsName-from b.bytes b.kept in
+    name-eq a b (padded_unique a.bytes b.bytes x.padded y.padded (x.fills ∙ sym y.fills) texts)
