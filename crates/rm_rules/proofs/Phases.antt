@@ -56,9 +56,6 @@ length-with n p (x ∷ xs) = elim (eqb x.number n) as (λ b. length (cond b ((re
     ]
 
 -- how a new phase changes the number of live queries
-is_live : Session → ℕ
-is_live x = cond (not (is_idle x.phase)) 1 0
-
 live-turn : (b : Bool) (n : ℕ) (p : Phase) (x : Session) (xs ys : List Session) → eqb x.number n ≡ b
     → (is_some (session_called xs n) ≡ true → live_queries ys + one_if (not (is_idle (phase_of xs n))) ≡ live_queries xs + one_if (not (is_idle p)))
     → is_some (cond b (Some x) (session_called xs n)) ≡ true
