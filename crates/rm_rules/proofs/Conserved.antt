@@ -1,18 +1,21 @@
--- The quantity is conserved in every state whose bytes are covered.
-use Rattle.std.specs.Prelude.{◌≡◌, ℕ, ◌+◌, ◌-◌, ◌≤◌, Bool, true, false, ◌&&◌, not, List, [], ◌∷◌, ◌++◌, Option, Some, None, find, length, min, sum, sum_by, refl}
+-- The quantity is conserved in every state whose bytes are covered, and what is admitted is within its pool's cap.
+use Rattle.std.specs.Prelude.{◌≡◌, ℕ, ◌+◌, ◌-◌, ◌≤◌, Bool, true, false, ◌&&◌, ◌||◌, ◌==◌, nat_le, not, List, [], ◌∷◌, ◌++◌, Option, Some, None, find, length, min, sum, sum_by, refl, if◌then◌else◌}
 use Rattle.std.specs.List.{list_all, list_any}
-use Rattle.std.proofs.Common.{sym, ap, ◌∙◌, subst, arith}
-use Rattle.std.proofs.lemmas.Bool.{and_parts, not-true}
+use Rattle.std.proofs.Common.{sym, ap, ◌∙◌, subst, true≢false, arith}
+use Rattle.std.proofs.lemmas.Bool.{and_parts, not-true, leb-true}
 use Rattle.std.proofs.lemmas.List.Sums.{sum_by-cons, sum_by_push}
 use Rattle.rm_base.specs.declared.entry.Account.{Account}
 use Rattle.rm_base.specs.declared.rows.PoolRow.{PoolRow}
 use Rattle.rm_base.specs.declared.name.Name.{Name}
 use Rattle.rm_base.specs.Name.{same_name, general}
-use Rattle.rm_base.proofs.Names.{same_name-eq}
+use Rattle.rm_base.proofs.Names.{same_name-refl, same_name-eq}
 use Rattle.rm_rules.specs.declared.state.Runner.{Runner}
-use Rattle.rm_rules.specs.Definitions.{user_pools}
+use Rattle.rm_rules.specs.declared.state.Waiter.{Waiter}
+use Rattle.rm_rules.specs.Definitions.{user_pools, pool_row}
+use Rattle.rm_rules.specs.Budget.{threshold, cap}
 use Rattle.rm_rules.specs.State.{State}
 use Rattle.rm_rules.specs.Accounting.{grant_in, used, reserves, own, debt, unused, own_of, lent, account_behind, accounts_behind, accounts}
+use Rattle.rm_rules.specs.Admission.{poolfit, need, can_lend, ask_of, judged_for, heads, is_blocked, is_entitled, first_among, first_entitled, started, admitted}
 use Rattle.rm_rules.specs.Sound.{IsSound, has_pool, are_distinct}
 use Rattle.rm_rules.specs.Healthy.{IsCovered}
 use Rattle.rm_rules.specs.Conserved.{granted, unused_reserves, own_in, from_general, actual_of, IsConserved}
@@ -208,3 +211,32 @@ conserved s sound covered =
       total_in_force = covered.in_force_least;
       full_above_total = covered.full_above_total;
     }
+
+-- the first entitled of these fits
+fits_turn : (s : State) (blocked : Bool) (h w : Waiter) (hs : List Waiter) (b : Bool) → is_entitled blocked (judged_for s h) ≡ b
+    → first_among s blocked (h ∷ hs) ≡ Some w
+    → (first_among s (blocked || is_blocked (judged_for s h)) hs ≡ Some w → (judged_for s w).fits ≡ true) → (judged_for s w).fits ≡ true
+fits_turn s blocked h w hs true e first behind =
+    let picked : Some h ≡ Some w = sym (ap (λ b. if b then Some h else first_among s (blocked || is_blocked (judged_for s h)) hs) e) ∙ first in
+    let same : h ≡ w = ap (λ o. elim o [ Some x ↦ x | None ↦ h ]) picked in
+    let parts = and_parts (judged_for s h).fits ((judged_for s h).need == 0 || not blocked) e in
+    subst (λ x. (judged_for s x).fits ≡ true) same parts.0
+fits_turn s blocked h w hs false e first behind =
+    behind (sym (ap (λ b. if b then Some h else first_among s (blocked || is_blocked (judged_for s h)) hs) e) ∙ first)
+
+pub first_among-fits : (s : State) (blocked : Bool) (w : Waiter) (hs : List Waiter) → first_among s blocked hs ≡ Some w → (judged_for s w).fits ≡ true
+first_among-fits s blocked w [] first = absurd (true≢false (ap (λ o. elim o [ Some x ↦ false | None ↦ true ]) first))
+first_among-fits s blocked w (h ∷ hs) first =
+    fits_turn s blocked h w hs (is_entitled blocked (judged_for s h)) refl first (first_among-fits s (blocked || is_blocked (judged_for s h)) w hs)
+
+-- right after an admission the pool's use is within its cap
+pub used-within-cap : (s : State) (w : Waiter) → first_entitled s ≡ Some w → used w.pool (admitted s w).running ≤ cap s.definitions (pool_row s.definitions w.pool)
+used-within-cap s w first =
+    let fits : (judged_for s w).fits ≡ true = first_among-fits s false w (heads s.waiting) first in
+    let outer = and_parts (poolfit s w.pool (ask_of s w)) (need s w.pool (ask_of s w) == 0 || can_lend s (need s w.pool (ask_of s w))) fits in
+    let inner =
+    and_parts (nat_le (used w.pool s.running) (threshold s.definitions (pool_row s.definitions w.pool)))
+    (nat_le (used w.pool s.running + ask_of s w) (cap s.definitions (pool_row s.definitions w.pool))) outer.0 in
+    let within = leb-true (used w.pool s.running + ask_of s w) (cap s.definitions (pool_row s.definitions w.pool)) inner.1 in
+    let grant : grant_in w.pool (started s w) ≡ ask_of s w = rw (same_name-refl w.pool) refl in
+    omega (arith, sum_by_push (grant_in w.pool) s.running (started s w), grant, within)
