@@ -61,7 +61,7 @@ debts-other running r [] h = refl
 debts-other running r (e ∷ es) h =
     let rest = debts-other running r es (or_right_false (same_name e.0.name r.pool) _ h) in
     let same : used e.0.name (running ++ r ∷ []) ≡ used e.0.name running =
-      omega (arith, used-push e.0.name running r, grant_elsewhere e.0.name r (or_left_false (same_name e.0.name r.pool) _ h)) in
+    omega (arith, used-push e.0.name running r, grant_elsewhere e.0.name r (or_left_false (same_name e.0.name r.pool) _ h)) in
     sum_by-cons (debt (running ++ r ∷ [])) e es ∙ omega (arith, rest, same) ∙ sym (sum_by-cons (debt running) e es)
 
 -- the unused bytes of the pool of this name
@@ -100,7 +100,7 @@ absent-find p (e ∷ es) h =
 lent-turn : (running : List Runner) (r : Runner) (es : List (PoolRow × ℕ)) (b : Bool) → same_name general r.pool ≡ b → AreApart es
     → list_any (λ x. same_name x.0.name general) es ≡ false
     → used general (running ++ r ∷ []) + sum_by (debt (running ++ r ∷ [])) es
-        ≤ used general running + sum_by (debt running) es + (r.grant - min r.grant (unused_at running (find (λ x. same_name x.0.name r.pool) es)))
+    ≤ used general running + sum_by (debt running) es + (r.grant - min r.grant (unused_at running (find (λ x. same_name x.0.name r.pool) es)))
 lent-turn running r es true here apart none =
     let absent : list_any (λ x. same_name x.0.name r.pool) es ≡ false = ap (λ n. list_any (λ x. same_name x.0.name n) es) (sym (same_name-eq general r.pool here)) ∙ none in
     let nothing : unused_at running (find (λ x. same_name x.0.name r.pool) es) ≡ 0 = ap (unused_at running) (absent-find r.pool es absent) in
@@ -109,5 +109,5 @@ lent-turn running r es false here apart none = omega (arith, debts-push running 
 
 pub lent-push : (running : List Runner) (r : Runner) (es : List (PoolRow × ℕ)) → AreApart es → list_any (λ x. same_name x.0.name general) es ≡ false
     → used general (running ++ r ∷ []) + sum_by (debt (running ++ r ∷ [])) es
-        ≤ used general running + sum_by (debt running) es + (r.grant - min r.grant (unused_at running (find (λ x. same_name x.0.name r.pool) es)))
+    ≤ used general running + sum_by (debt running) es + (r.grant - min r.grant (unused_at running (find (λ x. same_name x.0.name r.pool) es)))
 lent-push running r es apart none = lent-turn running r es (same_name general r.pool) refl apart none

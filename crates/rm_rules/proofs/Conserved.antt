@@ -19,6 +19,7 @@ use Rattle.rm_rules.specs.Admission.{poolfit, need, can_lend, ask_of, judged_for
 use Rattle.rm_rules.specs.Sound.{IsSound, has_pool, are_distinct}
 use Rattle.rm_rules.specs.Healthy.{IsCovered}
 use Rattle.rm_rules.specs.Conserved.{granted, unused_reserves, own_in, from_general, actual_of, IsConserved}
+use Rattle.rm_rules.proofs.Queue.{first_entitled_fits}
 use Rattle.rm_rules.proofs.Pools.{names, in_pool, worth, split_by_pools, is_called, pool_names, others_agree, zip_names, zip_numbers, worth_of_all}
 
 -- the names of the pools but GENERAL
@@ -212,27 +213,10 @@ conserved s sound covered =
       full_above_total = covered.full_above_total;
     }
 
--- the first entitled of these fits
-fits_turn : (s : State) (blocked : Bool) (h w : Waiter) (hs : List Waiter) (b : Bool) → is_entitled blocked (judged_for s h) ≡ b
-    → first_among s blocked (h ∷ hs) ≡ Some w
-    → (first_among s (blocked || is_blocked (judged_for s h)) hs ≡ Some w → (judged_for s w).fits ≡ true) → (judged_for s w).fits ≡ true
-fits_turn s blocked h w hs true e first behind =
-    let picked : Some h ≡ Some w = sym (ap (λ b. if b then Some h else first_among s (blocked || is_blocked (judged_for s h)) hs) e) ∙ first in
-    let same : h ≡ w = ap (λ o. elim o [ Some x ↦ x | None ↦ h ]) picked in
-    let parts = and_parts (judged_for s h).fits ((judged_for s h).need == 0 || not blocked) e in
-    subst (λ x. (judged_for s x).fits ≡ true) same parts.0
-fits_turn s blocked h w hs false e first behind =
-    behind (sym (ap (λ b. if b then Some h else first_among s (blocked || is_blocked (judged_for s h)) hs) e) ∙ first)
-
-pub first_among-fits : (s : State) (blocked : Bool) (w : Waiter) (hs : List Waiter) → first_among s blocked hs ≡ Some w → (judged_for s w).fits ≡ true
-first_among-fits s blocked w [] first = absurd (true≢false (ap (λ o. elim o [ Some x ↦ false | None ↦ true ]) first))
-first_among-fits s blocked w (h ∷ hs) first =
-    fits_turn s blocked h w hs (is_entitled blocked (judged_for s h)) refl first (first_among-fits s (blocked || is_blocked (judged_for s h)) w hs)
-
 -- right after an admission the pool's use is within its cap
 pub used-within-cap : (s : State) (w : Waiter) → first_entitled s ≡ Some w → used w.pool (admitted s w).running ≤ cap s.definitions (pool_row s.definitions w.pool)
 used-within-cap s w first =
-    let fits : (judged_for s w).fits ≡ true = first_among-fits s false w (heads s.waiting) first in
+    let fits = (first_entitled_fits s w first).1 in
     let outer = and_parts (poolfit s w.pool (ask_of s w)) (need s w.pool (ask_of s w) == 0 || can_lend s (need s w.pool (ask_of s w))) fits in
     let inner =
     and_parts (nat_le (used w.pool s.running) (threshold s.definitions (pool_row s.definitions w.pool)))

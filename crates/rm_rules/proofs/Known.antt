@@ -43,7 +43,7 @@ by_role-known d user (PoolToUser p u) sound = refl
 by_role-known d user (PoolToRole p r) sound = refl
 by_role-known d user (RoleToUser r u) sound =
     let known : passes_if_set (has_pool d) (option_and_then (λ (row : RoleRow). row.pool) (role_called d.roles r)) ≡ true =
-      role-turn d (role_called d.roles r) (λ row found. all_found (λ x. passes_if_set (has_pool d) x.pool) (λ x. same_name x.name r) d.roles row sound.role_pools_there found) in
+    role-turn d (role_called d.roles r) (λ row found. all_found (λ x. passes_if_set (has_pool d) x.pool) (λ x. same_name x.name r) d.roles row sound.role_pools_there found) in
     elim (same_name u user) as (λ b. passes_if_set (has_pool d) (cond b (option_and_then (λ (row : RoleRow). row.pool) (role_called d.roles r)) None) ≡ true) [ true ↦ known | false ↦ refl ]
 
 first-known : (d : Definitions) (o rest : Option Name) → passes_if_set (has_pool d) o ≡ true → passes_if_set (has_pool d) rest ≡ true
@@ -77,6 +77,6 @@ chosen-with d n p (x ∷ xs) all =
     let here : passes_if_set (has_pool d) x.pool ≡ true = and_left _ (list_all (λ y. passes_if_set (has_pool d) y.pool) xs) all in
     let more : list_all (λ y. passes_if_set (has_pool d) y.pool) xs ≡ true = and_right (passes_if_set (has_pool d) x.pool) _ all in
     elim (x.number == n) as (λ b. list_all (λ y. passes_if_set (has_pool d) y.pool) (cond b ((record x { phase = p }) ∷ xs) (x ∷ with_phase n p xs)) ≡ true) [
-      true ↦ and_both _ _ here more
-    | false ↦ and_both _ _ here (chosen-with d n p xs more)
+      | true ↦ and_both _ _ here more
+      | false ↦ and_both _ _ here (chosen-with d n p xs more)
     ]

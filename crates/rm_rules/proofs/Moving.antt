@@ -23,6 +23,7 @@ use Rattle.rm_rules.proofs.Phases.{phase_of-with_other, phase_of-with_same, leng
 use Rattle.rm_rules.proofs.Bytes.{apart-zip, absent-zip, general-absent, user_pools-distinct, lent-push}
 use Rattle.rm_rules.proofs.Known.{chosen-with}
 use Rattle.rm_rules.proofs.Queue.{IsAmong, first_entitled_fits}
+use Rattle.rm_rules.proofs.Conserved.{granted-within}
 
 -- what all states keep, with room for so many entries
 pub record AreKept (entries : ℕ) (s : State) : Type 0 where
@@ -51,7 +52,7 @@ pub covered-admitted : (s : State) (w : Waiter) → IsSound s.definitions → Is
 covered-admitted s w sound covered picked =
     let f = first_entitled_fits s w picked in
     let known : has_pool s.definitions w.pool ≡ true =
-      all_among (λ x. has_pool s.definitions x.pool) f.0.front f.0.rest w (subst (λ (l : List Waiter). list_all (λ x. has_pool s.definitions x.pool) l ≡ true) f.0.split covered.waiting_known) in
+    all_among (λ x. has_pool s.definitions x.pool) f.0.front f.0.rest w (subst (λ (l : List Waiter). list_all (λ x. has_pool s.definitions x.pool) l ≡ true) f.0.split covered.waiting_known) in
     let within = within-admitted s w sound covered f.1 in
     let running = all_push (λ x. has_pool s.definitions x.pool) s.running (started s w) covered.running_known known in
     record {
@@ -61,7 +62,7 @@ covered-admitted s w sound covered picked =
       in_force_most = covered.in_force_most;
       in_force_is_total = covered.in_force_is_total;
       full_above_total = λ above. absurd (omega (arith, above, covered.in_force_is_total));
-      granted = ?;
+      granted = granted-within (admitted s w) sound covered.sizes within running;
       running_known = running;
       waiting_known = all_without (λ x. has_pool s.definitions x.pool) (λ x. eqb x.session w.session) s.waiting covered.waiting_known;
       chosen_known = chosen-with s.definitions w.session phase.Running s.sessions covered.chosen_known;
@@ -81,41 +82,43 @@ waiting-live (phase.Ended end) h = absurd (false≢true h)
 session-waits : (s : State) (w : Waiter) → AreInPhase s → IsAmong w s.waiting → is_waiting (phase_of s.sessions w.session) ≡ true
 session-waits s w h among =
     let counted : 1 ≤ count_by (λ (x : Waiter). eqb x.session w.session) s.waiting =
-      subst (λ (l : List Waiter). 1 ≤ count_by (λ x. eqb x.session w.session) l) (sym among.split)
-      (counted_among (λ x. eqb x.session w.session) among.front among.rest w (eq-eqb w.session w.session refl)) in
+    subst (λ (l : List Waiter). 1 ≤ count_by (λ x. eqb x.session w.session) l) (sym among.split)
+    (counted_among (λ x. eqb x.session w.session) among.front among.rest w (eq-eqb w.session w.session refl)) in
     one_or_none _ (omega (arith, counted, h.waits w.session))
 
 in_phase-same : (s : State) (w y : Waiter) → AreInPhase s → is_waiting (phase_of s.sessions w.session) ≡ true
     → find (λ (x : Waiter). eqb x.session w.session) s.waiting ≡ Some y
     → (count_by (λ (x : Waiter). eqb x.session w.session) (without_waiter w.session s.waiting) ≡ one_if (is_waiting (phase_of (with_phase w.session phase.Running s.sessions) w.session)))
-      × (count_by (λ (x : Runner). eqb x.session w.session) (s.running ++ started s w ∷ []) ≡ one_if (is_running (phase_of (with_phase w.session phase.Running s.sessions) w.session)))
+    × (count_by (λ (x : Runner). eqb x.session w.session) (s.running ++ started s w ∷ []) ≡ one_if (is_running (phase_of (with_phase w.session phase.Running s.sessions) w.session)))
 in_phase-same s w y h waits found =
     let now : phase_of (with_phase w.session phase.Running s.sessions) w.session ≡ phase.Running =
-      phase_of-with_same w.session phase.Running s.sessions (open_if_live w.session s.sessions (waiting-live _ waits).0) in
+    phase_of-with_same w.session phase.Running s.sessions (open_if_live w.session s.sessions (waiting-live _ waits).0) in
     let taken : cond (eqb y.session w.session) 1 0 ≡ 1 = ap {B = ℕ} (λ b. cond b 1 0) (found_passes (λ (x : Waiter). eqb x.session w.session) y s.waiting found) in
-    let put : cond (eqb w.session w.session) 1 0 ≡ 1 = ap {B = ℕ} (λ b. cond b 1 0) (eq-eqb w.session w.session refl) in
-    (omega (arith, sum_without (λ (x : Waiter). cond (eqb x.session w.session) 1 0) (λ x. eqb x.session w.session) y s.waiting found, taken, h.waits w.session, ap one_if waits, ap (λ p. one_if (is_waiting p)) now),
-     omega (arith, sum_by_push (λ (x : Runner). cond (eqb x.session w.session) 1 0) s.running (started s w), put, h.runs w.session, ap one_if (waiting-live _ waits).1, ap (λ p. one_if (is_running p)) now))
+    let put : cond (eqb w.session w.session) 1 0 ≡ 1 = ap {B = ℕ} (λ b. cond b 1 0) (eq-eqb w.session w.session refl) in (
+      omega (arith, sum_without (λ (x : Waiter). cond (eqb x.session w.session) 1 0) (λ x. eqb x.session w.session) y s.waiting found, taken, h.waits w.session, ap one_if waits, ap (λ p. one_if (is_waiting p)) now),
+      omega (arith, sum_by_push (λ (x : Runner). cond (eqb x.session w.session) 1 0) s.running (started s w), put, h.runs w.session, ap one_if (waiting-live _ waits).1, ap (λ p. one_if (is_running p)) now),
+    )
 
 in_phase-other : (s : State) (w y : Waiter) (n : ℕ) → eqb w.session n ≡ false → AreInPhase s
     → find (λ (x : Waiter). eqb x.session w.session) s.waiting ≡ Some y
     → (count_by (λ (x : Waiter). eqb x.session n) (without_waiter w.session s.waiting) ≡ one_if (is_waiting (phase_of (with_phase w.session phase.Running s.sessions) n)))
-      × (count_by (λ (x : Runner). eqb x.session n) (s.running ++ started s w ∷ []) ≡ one_if (is_running (phase_of (with_phase w.session phase.Running s.sessions) n)))
+    × (count_by (λ (x : Runner). eqb x.session n) (s.running ++ started s w ∷ []) ≡ one_if (is_running (phase_of (with_phase w.session phase.Running s.sessions) n)))
 in_phase-other s w y n differs h found =
     let now = phase_of-with_other w.session n phase.Running s.sessions differs in
     let of_session : y.session ≡ w.session = eqb-true y.session w.session (found_passes (λ (x : Waiter). eqb x.session w.session) y s.waiting found) in
     let taken : cond (eqb y.session n) 1 0 ≡ 0 = ap {B = ℕ} (λ b. cond b 1 0) (ap (λ k. eqb k n) of_session ∙ differs) in
-    let put : cond (eqb w.session n) 1 0 ≡ 0 = ap {B = ℕ} (λ b. cond b 1 0) differs in
-    (omega (arith, sum_without (λ (x : Waiter). cond (eqb x.session n) 1 0) (λ x. eqb x.session w.session) y s.waiting found, taken, h.waits n, ap (λ p. one_if (is_waiting p)) now),
-     omega (arith, sum_by_push (λ (x : Runner). cond (eqb x.session n) 1 0) s.running (started s w), put, h.runs n, ap (λ p. one_if (is_running p)) now))
+    let put : cond (eqb w.session n) 1 0 ≡ 0 = ap {B = ℕ} (λ b. cond b 1 0) differs in (
+      omega (arith, sum_without (λ (x : Waiter). cond (eqb x.session n) 1 0) (λ x. eqb x.session w.session) y s.waiting found, taken, h.waits n, ap (λ p. one_if (is_waiting p)) now),
+      omega (arith, sum_by_push (λ (x : Runner). cond (eqb x.session n) 1 0) s.running (started s w), put, h.runs n, ap (λ p. one_if (is_running p)) now),
+    )
 
 in_phase-turn : (s : State) (w y : Waiter) (n : ℕ) (b : Bool) → eqb w.session n ≡ b → AreInPhase s → is_waiting (phase_of s.sessions w.session) ≡ true
     → find (λ (x : Waiter). eqb x.session w.session) s.waiting ≡ Some y
     → (count_by (λ (x : Waiter). eqb x.session n) (without_waiter w.session s.waiting) ≡ one_if (is_waiting (phase_of (with_phase w.session phase.Running s.sessions) n)))
-      × (count_by (λ (x : Runner). eqb x.session n) (s.running ++ started s w ∷ []) ≡ one_if (is_running (phase_of (with_phase w.session phase.Running s.sessions) n)))
+    × (count_by (λ (x : Runner). eqb x.session n) (s.running ++ started s w ∷ []) ≡ one_if (is_running (phase_of (with_phase w.session phase.Running s.sessions) n)))
 in_phase-turn s w y n true same h waits found =
     subst (λ (n : ℕ). (count_by (λ (x : Waiter). eqb x.session n) (without_waiter w.session s.waiting) ≡ one_if (is_waiting (phase_of (with_phase w.session phase.Running s.sessions) n)))
-      × (count_by (λ (x : Runner). eqb x.session n) (s.running ++ started s w ∷ []) ≡ one_if (is_running (phase_of (with_phase w.session phase.Running s.sessions) n))))
+    × (count_by (λ (x : Runner). eqb x.session n) (s.running ++ started s w ∷ []) ≡ one_if (is_running (phase_of (with_phase w.session phase.Running s.sessions) n))))
     (eqb-true w.session n same) (in_phase-same s w y h waits found)
 in_phase-turn s w y n false differs h waits found = in_phase-other s w y n differs h found
 
@@ -156,11 +159,11 @@ room-admitted k s w h room picked =
 
 pub kept-admitted : (k : ℕ) (s : State) (w : Waiter) → first_entitled s ≡ Some w → AreKept k s → AreKept k (admitted s w)
 kept-admitted k s w picked h = record {
-    sound = h.sound;
-    covered = covered-admitted s w h.sound h.covered picked;
-    in_phase = in_phase-admitted s w h.in_phase picked;
-    room = room-admitted k s w h.in_phase h.room picked;
-  }
+  sound = h.sound;
+  covered = covered-admitted s w h.sound h.covered picked;
+  in_phase = in_phase-admitted s w h.in_phase picked;
+  room = room-admitted k s w h.in_phase h.room picked;
+}
 
 -- what each turn keeps is kept by all of them
 repeated-turn : (P : State → Type 0) (n : ℕ) (s : State) (o : Option Waiter) → first_entitled s ≡ o → P s

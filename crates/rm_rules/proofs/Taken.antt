@@ -65,8 +65,8 @@ all_without p test [] all = refl
 all_without {A} p test (x ∷ xs) all =
     let rest = all_without p test xs (and_right (p x) (list_all p xs) all) in
     elim (test x) as (λ b. list_all p (cond b xs (x ∷ without test xs)) ≡ true) [
-      true ↦ and_right (p x) (list_all p xs) all
-    | false ↦ and_both (p x) _ (and_left (p x) (list_all p xs) all) rest
+      | true ↦ and_right (p x) (list_all p xs) all
+      | false ↦ and_both (p x) _ (and_left (p x) (list_all p xs) all) rest
     ]
 
 pub all_push : {A : Type 0} (p : A → Bool) (xs : List A) (y : A) → list_all p xs ≡ true → p y ≡ true → list_all p (xs ++ y ∷ []) ≡ true
@@ -89,10 +89,10 @@ all_found p q [] y all found = let none : None ≡ Some y = found in absurd (cc)
 all_found p q (x ∷ xs) y all found =
     let here : p x ≡ true = and_left (p x) (list_all p xs) all in
     let turn : (b : Bool) → cond b (Some x) (find q xs) ≡ Some y → p y ≡ true =
-      λ b. elim b as (λ c. cond c (Some x) (find q xs) ≡ Some y → p y ≡ true) [
-        true ↦ λ (e : Some x ≡ Some y). let same : x ≡ y = cc in ap p (sym same) ∙ here
+    λ b. elim b as (λ c. cond c (Some x) (find q xs) ≡ Some y → p y ≡ true) [
+      | true ↦ λ (e : Some x ≡ Some y). let same : x ≡ y = cc in ap p (sym same) ∙ here
       | false ↦ all_found p q xs y (and_right (p x) (list_all p xs) all)
-      ] in
+    ] in
     turn (q x) found
 
 -- both sides of `||`
