@@ -1,0 +1,11 @@
+// What the host asks of the world outside: input, output, files, spill files and the store.
+#![tactic(auto)]
+
+pub mod call_plan;
+pub mod failing_sink;
+pub mod failing_source;
+pub mod memory_sink;
+pub mod memory_source;
+pub mod outside;
+pub mod sink;
+pub mod source;
