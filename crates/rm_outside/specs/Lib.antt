@@ -1,3 +1,6 @@
 pub mod Faults
 pub mod Streams
 pub mod Plan
+pub mod Shelf
+pub mod Spool
+pub mod Slots

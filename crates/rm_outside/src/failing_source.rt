@@ -1,4 +1,4 @@
-ghost use Rattle.std.specs.Prelude.{◌≡◌, ◌<◌, ◌↔◌, ℕ, Some, length, min, IfOk, IsErrOf, IsTrue};
+ghost use Rattle.std.specs.Prelude.{◌≡◌, ◌<◌, ℕ, Some, Ok, Err, length, min, if◌then◌else◌};
 ghost use Rattle.std.specs.Io.{ReadsAtMost};
 ghost use Rattle.std.specs.Io.KnownBytes.{ReadConsumes};
 ghost use Rattle.rm_outside.specs.Faults.{HasCause};
@@ -57,8 +57,8 @@ impl Source for FailingSource {
 
         ensures skipped { length into.old ≡ 0 → self.new.plan ≡ self.old.plan }
         ensures counts { 0 < length into.old → self.new.plan ≡ after_call self.old.plan }
-        ensures fails { 0 < length into.old → (IsErrOf result Outside.Failed ↔ IsTrue (fails_next self.old.plan)) }
-        ensures answer { IfOk result (λ n. n ≡ min (length self.old.bytes) (length into.old)) }
+        ensures answer { 0 < length into.old → result ≡ (if fails_next self.old.plan then Err Outside.Failed
+            else Ok (min (length self.old.bytes) (length into.old))) }
     {
         if into.is_empty() {
             return Ok(0);

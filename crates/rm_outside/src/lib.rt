@@ -2,10 +2,15 @@
 #![tactic(auto)]
 
 pub mod call_plan;
+mod copy;
 pub mod failing_sink;
 pub mod failing_source;
+pub mod memory_shelf;
 pub mod memory_sink;
 pub mod memory_source;
+pub mod memory_spool;
 pub mod outside;
+pub mod shelf;
 pub mod sink;
 pub mod source;
+pub mod spool;

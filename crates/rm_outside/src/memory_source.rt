@@ -1,9 +1,10 @@
-ghost use Rattle.std.specs.Prelude.{◌≡◌, ◌++◌, ℕ, List, Some, Ok, min, length, take, drop};
+ghost use Rattle.std.specs.Prelude.{◌≡◌, Some, Ok, min, length};
 ghost use Rattle.std.specs.Io.{ReadsAtMost};
 ghost use Rattle.std.specs.Io.KnownBytes.{ReadConsumes};
 ghost use Rattle.rm_outside.specs.Faults.{HasCause};
 ghost use Rattle.rm_outside.specs.Streams.{AnswersNothing};
 
+use crate::copy::copy_front;
 use crate::outside::Outside;
 use crate::source::Source;
 use std::marker::Model;
@@ -38,16 +39,6 @@ impl MemorySource {
     {
         &self.bytes[self.at..]
     }
-}
-
-// Copies as many bytes as both have room for, and answers how many.
-fn copy_front(from: &[u8], to: &mut [u8]) -> usize
-    ensures count { result ≡ min (length from.now) (length to.old) }
-    ensures copied { to.new ≡ take result from.now ++ drop result to.old }
-{
-    let count = from.len().min(to.len());
-    to[..count].copy_from_slice(&from[..count]);
-    count
 }
 
 impl Source for MemorySource {
