@@ -124,9 +124,10 @@ impl Spool for MemorySpool {
 
     fn append(&mut self, id: SpoolId, piece: &[u8]) -> Result<(), Outside> {
         self.calls = self.calls.saturating_add(1);
+        let written = self.written.saturating_add(piece.len() as u64);
         let slot = &mut self.slots[id.0 as usize];
         slot.append(piece)?;
-        self.written = self.written.saturating_add(piece.len() as u64);
+        self.written = written;
         Ok(())
     }
 
