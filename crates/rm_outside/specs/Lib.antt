@@ -4,3 +4,5 @@ pub mod Plan
 pub mod Shelf
 pub mod Spool
 pub mod Slots
+pub mod Ranges
+pub mod Stored

@@ -1,10 +1,12 @@
-// What the host asks of the world outside: input, output, files, spill files and the store.
+//! What the host asks of the world outside: input, output, files, spill files and the store.
 #![tactic(auto)]
 
 pub mod call_plan;
 mod copy;
 pub mod failing_sink;
 pub mod failing_source;
+pub mod keeper;
+pub mod memory_keeper;
 pub mod memory_shelf;
 pub mod memory_sink;
 pub mod memory_source;
