@@ -16,3 +16,6 @@ pub mod shelf;
 pub mod sink;
 pub mod source;
 pub mod spool;
+
+#[cfg(test)]
+mod tests;

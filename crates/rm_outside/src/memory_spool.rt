@@ -103,6 +103,10 @@ impl Spool for MemorySpool {
 
     ghost files = { λ s. files_of s.slots };
 
+    ghost use Rattle.std.specs.Prelude.{refl};
+
+    ghost sizes_are_lengths = { λ _ _ _. refl };
+
     fn faults(&self) -> u64 {
         0
     }

@@ -1,4 +1,4 @@
-ghost use Rattle.std.specs.Prelude.{◌≡◌, ◌-◌, ◌≤◌, ℕ, length, take, min, IfOk, OnOk, OnErr, IsTrue};
+ghost use Rattle.std.specs.Prelude.{◌≡◌, ◌-◌, ◌≤◌, ℕ, length, take, min, IfSome, IfOk, OnOk, OnErr, IsTrue};
 ghost use Rattle.std.specs.Io.{ReadsAtMost};
 ghost use Rattle.rm_outside.specs.Faults.{HasCause, counted};
 ghost use Rattle.rm_outside.specs.Spool.{Files, FilesStay, Creates, Extends, ExtendsByFront, Removes, IsBare, IsPart};
@@ -77,4 +77,8 @@ pub trait Spool {
         ensures one_call { calls self.new ≡ counted (calls self.old) 1 }
         ensures none_written { written self.new ≡ written self.old }
         ensures cause { HasCause (faults self.old) (faults self.new) result };
+
+    // Where the bytes of a live file are told, its length is theirs.
+    ghost sizes_are_lengths: { (spool : Self) (number : ℕ) → IsTrue ((files spool).is_live number)
+        → IfSome ((files spool).bytes number) (λ bytes. length bytes ≡ (files spool).size number) };
 }
