@@ -10,14 +10,17 @@ use Rattle.rm_outside.specs.Spool.{Extends, ExtendsByFront, OthersStay, SameFile
 nothing_of : (slots : List (Option (List ℕ))) (number : ℕ) (piece : List ℕ) (written : ℕ)
     → is_some (slot_at slots number) ≡ true → length (unwrap_or (slot_at slots number) []) ≤ SPOOL_FILE_MOST → written < 2 ^ 64
     → ExtendsByFront (files_of slots) (files_of slots) number piece written written
-nothing_of slots number piece written live fits small =
-    (0, record {
-      is_live = live;
-      size = grind (arith, common_steps);
-      fits = fits;
-      bytes = grind (arith, common_steps);
-      others = λ other apart. record { is_live = refl; size = refl; bytes = refl };
-    }, omega arith)
+nothing_of slots number piece written live fits small = (
+  0,
+  record {
+    is_live = live;
+    size = grind (arith, common_steps);
+    fits = fits;
+    bytes = grind (arith, common_steps);
+    others = λ other apart. record { is_live = refl; size = refl; bytes = refl };
+  },
+  omega arith,
+)
 
 -- a live file's number is a slot's
 within : (slots : List (Option (List ℕ))) (number : ℕ) → is_some (slot_at slots number) ≡ true → number < length slots

@@ -16,7 +16,7 @@ fails_next plan = list_any (λ number. number == counted plan.calls 1) plan.fail
 abbrev pub after_call : Plan → Plan
 after_call plan = record plan {
   calls = counted plan.calls 1;
-  faults = if fails_next plan then counted plan.faults 1 else plan.faults
+  faults = if fails_next plan then counted plan.faults 1 else plan.faults;
 }
 
 -- bytes behind a plan of failing calls

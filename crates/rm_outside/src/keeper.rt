@@ -28,7 +28,8 @@ pub trait Keeper {
         requires cores_least { 1 ≤ cores }
         requires cores_most { cores ≤ CORES_MOST }
         ensures machine { IfOk result (λ definitions. IsNewlyLoaded definitions memory cores) }
-        ensures rows { IfSome (stored self.old) (λ rows. IfOk result (λ definitions. definitions ≡ restored rows memory cores)) }
+        ensures rows { IfOk result (λ definitions. IfSome (stored self.old) (λ rows.
+            definitions ≡ restored rows memory cores)) }
         ensures stays { stored self.new ≡ stored self.old }
         ensures cause { HasCause (faults self.old) (faults self.new) result };
 

@@ -16,6 +16,5 @@ pub mod shelf;
 pub mod sink;
 pub mod source;
 pub mod spool;
-
 #[cfg(test)]
 mod tests;

@@ -1,4 +1,4 @@
-ghost use Rattle.std.specs.Prelude.{◌≡◌, ◌∷◌, [], ℕ, List, Option, Some, map, OnOk, OnErr};
+ghost use Rattle.std.specs.Prelude.{◌≡◌, ◌∷◌, [], Some, OnOk, OnErr};
 ghost use Rattle.std.specs.Option.{option_copied};
 ghost use Rattle.std.specs.String.{string_bytes};
 ghost use Rattle.rm_outside.specs.Shelf.{file_at};
@@ -69,9 +69,6 @@ fn first_with<'a>(files: &'a [ShelfFile], path: &str) -> Option<&'a [u8]>
 }
 
 impl Shelf for MemoryShelf {
-    ghost use Rattle.std.specs.Prelude.{◌≡◌, ◌≤◌, ℕ, List, Option, Some, IfSome, IfOk, IfErr, vec_len};
-    ghost use Rattle.rm_outside.specs.Shelf.{file_at};
-
     ghost faults = { λ _. 0 };
 
     ghost files = { λ files. Some (file_at files) };

@@ -1,5 +1,6 @@
-ghost use Rattle.std.specs.Prelude.{◌≡◌, ◌≤◌, ◌++◌, [], Some, None, length, min, take, drop, IsSome, IfSome, IsSomeAnd, OnOk, OnErr, unwrap_or};
+ghost use Rattle.std.specs.Prelude.{◌≡◌, ◌≤◌, ◌++◌, [], Some, None, length, min, take, drop, refl, IsSome, OnOk, OnErr, unwrap_or};
 ghost use Rattle.rm_outside.specs.declared.spool.TheConstants.{SPOOL_FILE_MOST};
+ghost use Rattle.rm_outside.specs.Slots.{files_of};
 
 use crate::copy::copy_front;
 use crate::outside::Outside;
@@ -93,8 +94,6 @@ impl MemorySpool {
 }
 
 impl Spool for MemorySpool {
-    ghost use Rattle.rm_outside.specs.Slots.{files_of};
-
     ghost faults = { λ _. 0 };
 
     ghost calls = { λ s. s.calls };
@@ -102,8 +101,6 @@ impl Spool for MemorySpool {
     ghost written = { λ s. s.written };
 
     ghost files = { λ s. files_of s.slots };
-
-    ghost use Rattle.std.specs.Prelude.{refl};
 
     ghost sizes_are_lengths = { λ _ _ _. refl };
 

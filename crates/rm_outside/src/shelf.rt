@@ -1,5 +1,7 @@
 ghost use Rattle.std.specs.Prelude.{◌≡◌, ◌≤◌, ℕ, List, Option, IfSome, IfOk, IfErr, vec_len};
+ghost use Rattle.rm_outside.specs.declared.shelf.ShelfError.TheVariants.{Memory};
 ghost use Rattle.rm_outside.specs.declared.shelf.TheConstants.{FILE_MOST};
+ghost use Rattle.rm_outside.specs.Shelf.{HasShelfCause, IsWholeFile, Explains};
 
 use std::alloc::{AllocError, AllocFailed, Global};
 
@@ -20,9 +22,6 @@ pub enum ShelfError {
 }
 
 impl From<AllocError> for ShelfError {
-    ghost use Rattle.std.specs.Prelude.{◌≡◌};
-    ghost use Rattle.rm_outside.specs.declared.shelf.ShelfError.TheVariants.{Memory};
-
     ghost from_gives = { λ _ e. e ≡ Memory };
 
     fn from(_error: AllocError) -> ShelfError {
@@ -31,9 +30,6 @@ impl From<AllocError> for ShelfError {
 }
 
 impl<T: Drop> From<AllocFailed<T>> for ShelfError {
-    ghost use Rattle.std.specs.Prelude.{◌≡◌};
-    ghost use Rattle.rm_outside.specs.declared.shelf.ShelfError.TheVariants.{Memory};
-
     ghost from_gives = { λ _ e. e ≡ Memory };
 
     fn from(_error: AllocFailed<T>) -> ShelfError {
@@ -45,10 +41,6 @@ impl<T: Drop> From<AllocFailed<T>> for ShelfError {
 ///
 /// `faults` are the failures counted so far, and `files` the bytes of the file at each path, where told.
 pub trait Shelf {
-    ghost use Rattle.std.specs.Prelude.{◌≡◌, ◌≤◌, ℕ, List, Option, IfSome, IfOk, IfErr, vec_len};
-    ghost use Rattle.rm_outside.specs.declared.shelf.TheConstants.{FILE_MOST};
-    ghost use Rattle.rm_outside.specs.Shelf.{HasShelfCause, IsWholeFile, Explains};
-
     ghost faults: { Self → ℕ };
 
     ghost files: { Self → Option (List ℕ → Option (List ℕ)) };

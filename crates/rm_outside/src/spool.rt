@@ -52,7 +52,8 @@ pub trait Spool {
         requires { IsTrue ((files self.old).is_live id.0) }
         ensures ok { OnOk result (Extends (files self.old) (files self.new) id.0 piece.now) }
         ensures ok_written { OnOk result (written self.new ≡ counted (written self.old) (length piece.now)) }
-        ensures err { OnErr result (ExtendsByFront (files self.old) (files self.new) id.0 piece.now (written self.old) (written self.new)) }
+        ensures err { OnErr result (ExtendsByFront (files self.old) (files self.new) id.0 piece.now
+            (written self.old) (written self.new)) }
         ensures one_call { calls self.new ≡ counted (calls self.old) 1 }
         ensures cause { HasCause (faults self.old) (faults self.new) result };
 
