@@ -1,0 +1,9 @@
+//! The program `poolhost`: a query host whose memory is governed by resource pools.
+#![tactic(auto)]
+
+mod lines;
+mod numbers;
+mod options;
+mod words;
+
+fn main() {}

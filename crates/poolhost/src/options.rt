@@ -1,0 +1,82 @@
+//! The words of the command line of `script`.
+
+ghost use Rattle.std.specs.Prelude.{◌≡◌, map, string_bytes, Some};
+ghost use Rattle.poolhost.specs.Numbers.{in_range};
+ghost use Rattle.poolhost.specs.Options.{unit_of, memory_of, cores_of};
+
+use crate::numbers::value_of;
+
+/// The least memory of a machine, in bytes: 16 MiB.
+pub const MEMORY_LEAST: u64 = 16_777_216;
+
+/// The most memory of a machine, in bytes: 2^50.
+pub const MEMORY_MOST: u64 = 1_125_899_906_842_624;
+
+/// How many cores a machine has at most.
+pub const CORES_MOST: u64 = 1_024;
+
+/// What the words of the command line say of the machine.
+#[derive(Clone, Copy, PartialEq, Eq, Debug)]
+pub struct Options {
+    /// The memory in bytes.
+    pub memory: u64,
+    /// How many cores there are.
+    pub cores: u32,
+}
+
+/// The options that the words of the command line give: exactly `script --memory V --cores N`.
+pub fn options_of(words: &[String]) -> Option<Options>
+    ghost use Rattle.poolhost.specs.Options.{options_of};
+    ensures { result ≡ options_of (map string_bytes words.now) }
+{
+    let [command, first, memory, second, cores] = words else {
+        return None;
+    };
+    if command.as_str() != "script" || first.as_str() != "--memory" || second.as_str() != "--cores" {
+        return None;
+    }
+    let memory = memory_of(memory.as_str())?;
+    let cores = cores_of(cores.as_str())?;
+    Some(Options { memory, cores })
+}
+
+/// A memory word in bytes: digits and the letter of a unit.
+fn memory_of(word: &str) -> Option<u64>
+    ensures { result ≡ memory_of word.now }
+{
+    let last = word.len().checked_sub(1)?;
+    let unit = unit_of(word.as_bytes()[last])?;
+    let number = value_of(&word[..last])?;
+    in_range(MEMORY_LEAST, MEMORY_MOST, number.checked_mul(unit)?)
+}
+
+/// How many bytes the letter of a unit stands for.
+fn unit_of(letter: u8) -> Option<u64>
+    ensures { result ≡ unit_of letter }
+{
+    match letter {
+        b'K' => Some(1 << 10),
+        b'M' => Some(1 << 20),
+        b'G' => Some(1 << 30),
+        b'T' => Some(1 << 40),
+        _ => None,
+    }
+}
+
+/// A number of cores, with no leading zero.
+fn cores_of(word: &str) -> Option<u32>
+    ensures { result ≡ cores_of word.now }
+{
+    if word.starts_with('0') {
+        return None;
+    }
+    let cores = in_range(1, CORES_MOST, value_of(word)?)?;
+    u32::try_from(cores).ok()
+}
+
+/// The number, if it lies in a range, both ends counted.
+fn in_range(least: u64, most: u64, number: u64) -> Option<u64>
+    ensures { result ≡ in_range least most (Some number) }
+{
+    (least <= number && number <= most).then_some(number)
+}

@@ -1,0 +1,23 @@
+//! The words of a line.
+
+ghost use Rattle.std.specs.Prelude.{◌≡◌, map, IfOk};
+ghost use Rattle.poolhost.specs.Words.{has_outer_space, words};
+
+use std::alloc::AllocError;
+
+/// The words of a line; none for a line that begins or ends with a space.
+pub fn words(alloc: Global, line: &str) -> Result<Vec<&str>, AllocError>
+    ensures { IfOk result (λ parts. map (λ part. part.now) parts.items ≡ words line.now) }
+{
+    if has_outer_space(line) {
+        return Ok(Vec::new(alloc));
+    }
+    line.split(' ').filter(|piece| !piece.is_empty()).collect(alloc)
+}
+
+/// Whether a line begins or ends with a space.
+fn has_outer_space(line: &str) -> bool
+    ensures { result ≡ has_outer_space line.now }
+{
+    line.starts_with(' ') || line.ends_with(' ')
+}
