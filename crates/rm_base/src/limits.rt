@@ -1,0 +1,70 @@
+//! Every limit of poolhost, in one place.
+
+/// The least machine memory, in bytes: 16 MiB.
+pub const MEMORY_LEAST: u64 = 16_777_216;
+
+/// The greatest machine memory, and the greatest size in a statement, in bytes: 2^50.
+pub const MEMORY_MOST: u64 = 1_125_899_906_842_624;
+
+/// The least memory that GENERAL's MAXMEMORYSIZE may leave, in bytes: 1 MiB.
+pub const TOTAL_LEAST: u64 = 1_048_576;
+
+/// The greatest number of cores.
+pub const CORES_MOST: u32 = 1_024;
+
+/// How many pools there may be, GENERAL counted.
+pub const POOLS_MOST: usize = 64;
+
+/// How many users there may be, `dbadmin` counted.
+pub const USERS_MOST: usize = 256;
+
+/// How many roles there may be.
+pub const ROLES_MOST: usize = 64;
+
+/// How many grants there may be.
+pub const GRANTS_MOST: usize = 1_024;
+
+/// How many statements may be accepted since opening.
+pub const CHANGES_MOST: u32 = 4_096;
+
+/// How many sessions may be open at a time. Each has one live query at most.
+pub const SESSIONS_MOST: usize = 128;
+
+/// How many journal entries a live query keeps free until it ends.
+pub const ENTRIES_A_QUERY: usize = 40;
+
+/// How many journal entries an open session keeps free until it is closed.
+pub const ENTRIES_A_SESSION: usize = 2;
+
+/// The journal room of a script, in entries.
+pub const SCRIPT_ROOM: u32 = 65_536;
+
+/// How many of the last moves are kept.
+pub const MOVES_KEPT: usize = 64;
+
+/// The longest chain of CASCADE TO, in pools, the first counted.
+pub const CHAIN_MOST: u32 = 8;
+
+/// The longest name, in bytes.
+pub const NAME_MOST: usize = 32;
+
+/// The greatest moment, in milliseconds: 10^15.
+pub const MOMENT_MOST: u64 = 1_000_000_000_000_000;
+
+/// The greatest PLANNEDCONCURRENCY, MAXCONCURRENCY and EXECUTIONPARALLELISM.
+pub const CONCURRENCY_MOST: u32 = 1_000;
+
+/// The greatest PRIORITY. The least is its negative.
+pub const PRIORITY_MOST: i32 = 100;
+
+/// The longest RUNTIMEPRIORITYTHRESHOLD, in seconds: a day.
+pub const THRESHOLD_SECONDS_MOST: u32 = 86_400;
+
+/// The longest QUEUETIMEOUT and RUNTIMECAP, in milliseconds: 365 days.
+pub const SPAN_MOST: u64 = 31_536_000_000;
+
+/// The longest script, in bytes: 64 MiB.
+pub const SCRIPT_MOST: usize = 67_108_864;
+
+/// The longest line of a script, in bytes, its line end not counted.
+pub const LINE_MOST: usize = 65_536;
