@@ -1,2 +1,4 @@
 mod LinesLemmas
 mod NumbersLemmas
+mod OptionsLemmas
+mod WordsLemmas

@@ -2,10 +2,7 @@
 use Rattle.std.specs.Prelude.{ℕ, ◌+◌, Bool, ◌&&◌, if◌then◌else◌, nat_lt, nat_le, List, length, Option, Some, None}
 use Rattle.std.specs.Str.{all_ascii_digits}
 use Rattle.std.specs.Str.Parse.{digits_value}
-
--- how many digits a number of a script has at most
-abbrev pub digits_most : ℕ
-digits_most = 15
+use Rattle.poolhost.specs.declared.numbers.TheConstants.{DIGITS_MOST}
 
 -- one digit or more, and nothing else
 abbrev pub is_numeral : List ℕ → Bool
@@ -31,7 +28,7 @@ in_range least most number = below (most + 1) (at_least least number)
 
 -- a number of a script: 1 to 15 digits, leading zeros counted
 abbrev pub number_of : List ℕ → Option ℕ
-number_of word = if nat_le (length word) digits_most then value_of word else None
+number_of word = if nat_le (length word) DIGITS_MOST then value_of word else None
 
 -- a floor: a number of a script from 1 on
 abbrev pub floor_of : List ℕ → Option ℕ

@@ -1,20 +1,9 @@
 -- The words of the command line of `script`.
 use Rattle.std.specs.Prelude.{ℕ, Bool, ◌&&◌, ◌-◌, ◌*◌, ◌^◌, ◌==◌, if◌then◌else◌, nat_lt, List, [], ◌∷◌, length, take, Option, Some, None, slice_index, codes}
 use Rattle.std.specs.Str.{bytes_eq}
+use Rattle.rm_base.specs.declared.limits.TheConstants.{MEMORY_LEAST, MEMORY_MOST, CORES_MOST}
 use Rattle.poolhost.specs.Numbers.{value_of, in_range}
 use Rattle.poolhost.specs.declared.options.Options.{Options}
-
--- the memory of a machine, in bytes: at least 16 MiB
-abbrev pub memory_least : ℕ
-memory_least = 16777216
-
--- and at most 2^50 bytes
-abbrev pub memory_most : ℕ
-memory_most = 1125899906842624
-
--- how many cores a machine has at most
-abbrev pub cores_most : ℕ
-cores_most = 1024
 
 -- how many bytes the letter of a unit stands for: K, M, G or T
 abbrev pub unit_of : ℕ → Option ℕ
@@ -34,11 +23,11 @@ times (Some n) (Some unit) = Some (n * unit)
 abbrev pub memory_of : List ℕ → Option ℕ
 memory_of word =
     let last = length word - 1 in
-    in_range memory_least memory_most (times (value_of (take last word)) (unit_of (slice_index word last)))
+    in_range MEMORY_LEAST MEMORY_MOST (times (value_of (take last word)) (unit_of (slice_index word last)))
 
 -- a number of cores: digits that don't begin with 0
 abbrev pub cores_of : List ℕ → Option ℕ
-cores_of word = if slice_index word 0 == 48 then None else in_range 1 cores_most (value_of word)
+cores_of word = if slice_index word 0 == 48 then None else in_range 1 CORES_MOST (value_of word)
 
 -- the options, where both are read
 abbrev pub both_options : Option ℕ → Option ℕ → Option Options

@@ -5,9 +5,7 @@ ghost use Rattle.std.specs.Str.Lines.{lines, strip_carriage_return};
 ghost use Rattle.poolhost.specs.Lines.{is_readable};
 
 use memchr::memchr;
-
-/// How long a line is at most, in bytes, without its line feed and the carriage return before it.
-pub const LINE_MOST: usize = 65_536;
+use rm_base::limits::LINE_MOST;
 
 /// The first line of a text and what follows it, if the text has a line.
 ///

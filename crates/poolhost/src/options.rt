@@ -2,18 +2,11 @@
 
 ghost use Rattle.std.specs.Prelude.{◌≡◌, map, string_bytes, Some};
 ghost use Rattle.poolhost.specs.Numbers.{in_range};
-ghost use Rattle.poolhost.specs.Options.{unit_of, memory_of, cores_of};
+ghost use Rattle.poolhost.specs.Options.{unit_of, memory_of, cores_of, options_of};
+
+use rm_base::limits::{CORES_MOST, MEMORY_LEAST, MEMORY_MOST};
 
 use crate::numbers::value_of;
-
-/// The least memory of a machine, in bytes: 16 MiB.
-pub const MEMORY_LEAST: u64 = 16_777_216;
-
-/// The most memory of a machine, in bytes: 2^50.
-pub const MEMORY_MOST: u64 = 1_125_899_906_842_624;
-
-/// How many cores a machine has at most.
-pub const CORES_MOST: u64 = 1_024;
 
 /// What the words of the command line say of the machine.
 #[derive(Clone, Copy, PartialEq, Eq, Debug)]
@@ -26,7 +19,6 @@ pub struct Options {
 
 /// The options that the words of the command line give: exactly `script --memory V --cores N`.
 pub fn options_of(words: &[String]) -> Option<Options>
-    ghost use Rattle.poolhost.specs.Options.{options_of};
     ensures { result ≡ options_of (map string_bytes words.now) }
 {
     let [command, first, memory, second, cores] = words else {
@@ -70,7 +62,7 @@ fn cores_of(word: &str) -> Option<u32>
     if word.starts_with('0') {
         return None;
     }
-    let cores = in_range(1, CORES_MOST, value_of(word)?)?;
+    let cores = in_range(1, u64::from(CORES_MOST), value_of(word)?)?;
     u32::try_from(cores).ok()
 }
 

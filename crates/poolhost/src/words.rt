@@ -3,7 +3,7 @@
 ghost use Rattle.std.specs.Prelude.{◌≡◌, map, IfOk};
 ghost use Rattle.poolhost.specs.Words.{has_outer_space, words};
 
-use std::alloc::AllocError;
+use std::alloc::{AllocError, Global};
 
 /// The words of a line; none for a line that begins or ends with a space.
 pub fn words(alloc: Global, line: &str) -> Result<Vec<&str>, AllocError>
