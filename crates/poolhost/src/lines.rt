@@ -41,3 +41,49 @@ fn without_return(line: &[u8]) -> &[u8]
 {
     line.strip_suffix(b"\r").unwrap_or(line)
 }
+
+#[cfg(test)]
+mod tests {
+    use super::{LINE_MOST, cut_line, readable};
+
+    #[test]
+    fn cuts_lines(rt: HostRuntime) {
+        let cases: [(&[u8], Option<(&[u8], &[u8])>); 12] = [
+            (b"", None),
+            (b"a", Some((b"a", b""))),
+            (b"a\n", Some((b"a", b""))),
+            (b"a\r\nb", Some((b"a", b"b"))),
+            (b"a\nb\nc", Some((b"a", b"b\nc"))),
+            (b"\n\n", Some((b"", b"\n"))),
+            (b"\r\nb", Some((b"", b"b"))),
+            (b"a\r\r\n", Some((b"a\r", b""))),
+            (b"a\r", Some((b"a\r", b""))),
+            (b"\r", Some((b"\r", b""))),
+            (b"a\rb\n", Some((b"a\rb", b""))),
+            (b"a \n", Some((b"a ", b""))),
+        ];
+        for (text, cut) in cases {
+            assert_eq!(rt; cut_line(text), cut, "at {text:?}");
+        }
+    }
+
+    #[test]
+    fn reads_texts_that_are_not_too_long(rt: HostRuntime) -> Result<(), std::alloc::AllocError> {
+        let cases: [(&[u8], Option<&str>); 6] = [
+            (b"", Some("")),
+            (b"open a dbadmin", Some("open a dbadmin")),
+            (b"# \xc3\xa4\xe2\x82\xac", Some("# ä€")),
+            (b"\xff", None),
+            (b"# \xc3", None),
+            (b"\xed\xa0\x80", None),
+        ];
+        for (line, text) in cases {
+            assert_eq!(rt; readable(line), text, "at {line:?}");
+        }
+        let longest = vec![in rt.alloc(); b'#'; LINE_MOST]?;
+        assert!(rt; readable(&longest).is_some());
+        let longer = vec![in rt.alloc(); b'#'; LINE_MOST + 1]?;
+        assert!(rt; readable(&longer).is_none());
+        Ok(())
+    }
+}

@@ -72,3 +72,89 @@ fn in_range(least: u64, most: u64, number: u64) -> Option<u64>
 {
     (least <= number && number <= most).then_some(number)
 }
+
+#[cfg(test)]
+mod tests {
+    use super::{Options, cores_of, memory_of, options_of};
+    use std::alloc::AllocError;
+
+    #[test]
+    fn reads_memory(rt: HostRuntime) {
+        let cases = [
+            ("16M", Some(16_777_216)),
+            ("100M", Some(104_857_600)),
+            ("16G", Some(17_179_869_184)),
+            ("0016M", Some(16_777_216)),
+            ("16384K", Some(16_777_216)),
+            ("16383K", None),
+            ("15M", None),
+            ("0G", None),
+            ("1024T", Some(1_125_899_906_842_624)),
+            ("1048576G", Some(1_125_899_906_842_624)),
+            ("1025T", None),
+            ("1099511627777K", None),
+            ("18446744073709551615T", None),
+            ("99999999999999999999999999999999999999999M", None),
+            ("000000000000000000000000000000000000000100M", Some(104_857_600)),
+            ("100m", None),
+            ("100", None),
+            ("100MB", None),
+            ("M", None),
+            ("", None),
+            ("+100M", None),
+            ("-100M", None),
+            ("100 M", None),
+            ("100P", None),
+            ("100\u{39c}", None),
+        ];
+        for (word, memory) in cases {
+            assert_eq!(rt; memory_of(word), memory, "at {word:?}");
+        }
+    }
+
+    #[test]
+    fn reads_cores(rt: HostRuntime) {
+        let cases = [
+            ("1", Some(1)),
+            ("8", Some(8)),
+            ("1024", Some(1_024)),
+            ("1025", None),
+            ("0", None),
+            ("08", None),
+            ("", None),
+            ("+8", None),
+            ("-8", None),
+            ("8.0", None),
+            ("4294967304", None),
+            ("99999999999999999999999999999999999999999", None),
+        ];
+        for (word, cores) in cases {
+            assert_eq!(rt; cores_of(word), cores, "at {word:?}");
+        }
+    }
+
+    #[test]
+    fn reads_options(rt: HostRuntime) -> Result<(), AllocError> {
+        let options = Some(Options { memory: 104_857_600, cores: 8 });
+        let cases: [(&[&str], Option<Options>); 10] = [
+            (&["script", "--memory", "100M", "--cores", "8"], options),
+            (&[], None),
+            (&["script"], None),
+            (&["script", "--memory", "100M"], None),
+            (&["script", "--cores", "8", "--memory", "100M"], None),
+            (&["script", "--memory", "100M", "--cores", "8", ""], None),
+            (&["Script", "--memory", "100M", "--cores", "8"], None),
+            (&["script", "-memory", "100M", "--cores", "8"], None),
+            (&["script", "--memory", "100M", "--cores", "0"], None),
+            (&["script", "--memory", "1M", "--cores", "8"], None),
+        ];
+        for (texts, options) in cases {
+            let mut words = Vec::new(rt.alloc());
+            for text in texts {
+                words.push(String::from_str(rt.alloc(), text)?)?;
+            }
+            assert_eq!(rt; options_of(&words), options, "at {texts:?}");
+        }
+        Ok(())
+    }
+}

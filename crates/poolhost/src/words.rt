@@ -21,3 +21,29 @@ fn has_outer_space(line: &str) -> bool
 {
     line.starts_with(' ') || line.ends_with(' ')
 }
+
+#[cfg(test)]
+mod tests {
+    use super::words;
+    use std::alloc::AllocError;
+
+    #[test]
+    fn parts_lines_into_words(rt: HostRuntime) -> Result<(), AllocError> {
+        let cases: [(&str, &[&str]); 10] = [
+            ("", &[]),
+            ("open", &["open"]),
+            ("open a dbadmin", &["open", "a", "dbadmin"]),
+            ("open  a   dbadmin", &["open", "a", "dbadmin"]),
+            (" open a", &[]),
+            ("open a ", &[]),
+            (" ", &[]),
+            ("   ", &[]),
+            ("done\ta", &["done\ta"]),
+            ("\topen\u{a0}ä ", &[]),
+        ];
+        for (line, parts) in cases {
+            assert_eq!(rt; words(rt.alloc(), line)?.as_slice(), parts, "at {line:?}");
+        }
+        Ok(())
+    }
+}
