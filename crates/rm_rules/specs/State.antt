@@ -1,0 +1,115 @@
+-- The state of the pool machine.
+use Rattle.std.specs.Prelude.{ℕ, Bool, ◌&&◌, ◌||◌, ◌==◌, ◌∷◌, ◌++◌, List, [], Option, Some, None, option_and_then, find, map, true, false, if◌then◌else◌, not, count_by, length}
+use Rattle.rm_base.specs.declared.definitions.Definitions.{Definitions}
+use Rattle.rm_base.specs.declared.entry.EndCounts.{EndCounts}
+use Rattle.rm_base.specs.declared.entry.MoveSeen.{MoveSeen}
+use Rattle.rm_base.specs.declared.entry.Entry.{Entry}
+use Rattle.rm_base.specs.declared.rows.PoolRow.{PoolRow}
+use Rattle.rm_base.specs.declared.name.Name.{Name}
+use Rattle.rm_base.specs.declared.reply.Reply.{Reply}
+use Rattle.rm_base.specs.declared.reply.Reply.TheVariants.{Defined}
+use Rattle.rm_rules.specs.declared.state.Phase.{Phase}
+use Rattle.rm_rules.specs.declared.state.Phase.TheVariants as phase
+use Rattle.rm_rules.specs.declared.state.Session.{Session}
+use Rattle.rm_rules.specs.declared.state.Waiter.{Waiter}
+use Rattle.rm_rules.specs.declared.state.Runner.{Runner}
+use Rattle.rm_rules.specs.Definitions.{total, user_pools, default_pool}
+
+-- Sizes are in bytes, the clock in milliseconds. `actual` has the sizes of the pools but GENERAL, in their order,
+-- `counters` the ended queries of each pool, in their order, and `room` how many entries the journal may have, those
+-- of accepted statements not counted.
+pub record State : Type 0 where
+  pub definitions : Definitions
+  pub in_force : ℕ
+  pub actual : List ℕ
+  pub sessions : List Session
+  pub running : List Runner
+  pub waiting : List Waiter
+  pub clock : ℕ
+  pub counters : List EndCounts
+  pub moves : List MoveSeen
+  pub last_session : ℕ
+  pub last_query : ℕ
+  pub journal : List Entry
+  pub room : ℕ
+
+-- no query of a pool has ended in its queue
+abbrev pub no_ends : EndCounts
+no_ends = record { timedout = 0; toolarge = 0; cancelled = 0 }
+
+-- the state at the start: the total is in force, each pool has its MEMORYSIZE, and nobody is there
+abbrev pub start : Definitions → ℕ → State
+start d room = record {
+  definitions = d;
+  in_force = total d;
+  actual = map (λ r. r.memory) (user_pools d.pools);
+  sessions = [];
+  running = [];
+  waiting = [];
+  clock = 0;
+  counters = map (λ _. no_ends) d.pools;
+  moves = [];
+  last_session = 0;
+  last_query = 0;
+  journal = [];
+  room = room;
+}
+
+-- the open session of this number
+abbrev pub session_called : List Session → ℕ → Option Session
+session_called sessions number = find (λ x. x.number == number) sessions
+
+-- the session, where this seat has opened it
+abbrev pub if_opened_by : ℕ → Session → Option Session
+if_opened_by seat x = if x.seat == seat then Some x else None
+
+-- the open session of this number that the seat has opened
+abbrev pub session_of : State → ℕ → ℕ → Option Session
+session_of s seat number = option_and_then (if_opened_by seat) (session_called s.sessions number)
+
+-- a session's pool: the one that it chose, else its user's default pool as the definitions are now
+abbrev pub session_pool : Definitions → Session → Name
+session_pool d x = elim x.pool [ Some pool ↦ pool | None ↦ default_pool d x.user ]
+
+-- the sessions, with another phase of the one of this number
+abbrev pub with_phase : ℕ → Phase → List Session → List Session
+with_phase number now [] = []
+with_phase number now (x ∷ xs) = if x.number == number then (record x { phase = now }) ∷ xs else x ∷ with_phase number now xs
+
+-- the waiting queries without the first one of this number
+abbrev pub without_waiter : ℕ → List Waiter → List Waiter
+without_waiter query [] = []
+without_waiter query (w ∷ ws) = if w.query == query then ws else w ∷ without_waiter query ws
+
+-- the running queries without the first one of this session
+abbrev pub without_runner : ℕ → List Runner → List Runner
+without_runner session [] = []
+without_runner session (r ∷ rs) = if r.session == session then rs else r ∷ without_runner session rs
+
+abbrev pub is_idle : Phase → Bool
+is_idle phase.Idle = true
+is_idle phase.Waiting = false
+is_idle phase.Running = false
+is_idle (phase.Ended end) = false
+
+abbrev pub is_running : Phase → Bool
+is_running phase.Idle = false
+is_running phase.Waiting = false
+is_running phase.Running = true
+is_running (phase.Ended end) = false
+
+-- a query is live while its session is not idle
+abbrev pub live_queries : List Session → ℕ
+live_queries sessions = count_by (λ x. not (is_idle x.phase)) sessions
+
+-- an entry of an accepted statement
+abbrev pub is_definition : Entry → Bool
+is_definition e = is_defined e.reply
+  where
+    is_defined : Reply → Bool
+    is_defined Defined = true
+    is_defined _ = false
+
+-- the journal's entries that count against its room
+abbrev pub counted_entries : List Entry → ℕ
+counted_entries journal = count_by (λ e. not (is_definition e)) journal

@@ -1,0 +1,64 @@
+-- One event of the pool machine, and histories of events.
+use Rattle.std.specs.Prelude.{◌≡◌, ℕ, Bool, true, false, ◌==◌, List, [], ◌∷◌, ◌++◌, Result, Ok, Err, length, max, filter, if◌then◌else◌}
+use Rattle.rm_base.specs.declared.definitions.Definitions.{Definitions}
+use Rattle.rm_base.specs.declared.entry.Entry.{Entry}
+use Rattle.rm_base.specs.declared.event.Event.{Event}
+use Rattle.rm_base.specs.declared.refusal.Refusal.{Refusal}
+use Rattle.rm_base.specs.declared.reply.Reply.{Reply}
+use Rattle.rm_base.specs.declared.reply.Reply.TheVariants as reply
+use Rattle.rm_rules.specs.State.{State, start}
+use Rattle.rm_rules.specs.Admission.{settled}
+use Rattle.rm_rules.specs.Change.{Change, change, reply_of}
+
+-- what an event leaves, what is replied, and whether it made an entry
+pub record Outcome : Type 0 where
+  pub state : State
+  pub reply : Reply
+  pub entry : Bool
+
+-- the entry of an event
+abbrev pub noted : ℕ → ℕ → Event → Reply → Entry
+noted seat moment event answer = record { seat = seat; at = moment; event = event; reply = answer }
+
+-- the state with one entry more
+abbrev pub recorded : State → Entry → State
+recorded s entry = record s { journal = s.journal ++ entry ∷ [] }
+
+-- what follows an accepted event: what changed settles, and the entry is made
+abbrev pub accepted : ℕ → Event → State → Reply → Outcome
+accepted seat event s answer = record {
+  state = recorded s (noted seat s.clock event answer);
+  reply = answer;
+  entry = true;
+}
+
+-- the outcome of a change, or of a refusal, which leaves the state as it was
+abbrev pub outcome : State → ℕ → Event → Result Change Refusal → Outcome
+outcome s seat event (Err refusal) = record { state = s; reply = reply.Refused refusal; entry = false }
+outcome s seat event (Ok c) = accepted seat event (settled c.state) (reply_of (settled c.state) c.answer)
+
+-- the state at the later of its clock and the moment that was handed in
+abbrev pub moved_to : State → ℕ → State
+moved_to s at = record s { clock = max s.clock at }
+
+-- one event of the machine
+abbrev pub step : State → ℕ → ℕ → Event → Outcome
+step s seat at event = outcome s seat event (change (moved_to s at) seat event)
+
+-- the entry that an event makes, or none
+abbrev pub made : State → ℕ → ℕ → Event → List Entry
+made s seat at event = let o = step s seat at event in if o.entry then noted seat (max s.clock at) event o.reply ∷ [] else []
+
+-- the state that these entries leave
+abbrev pub replay : State → List Entry → State
+replay s [] = s
+replay s (e ∷ es) = replay (step s e.seat e.at e.event).state es
+
+-- each entry is just the one that its event makes at its place
+abbrev pub IsLegal : State → List Entry → Type 0
+IsLegal s [] = Unit {0}
+IsLegal s (e ∷ es) = (made s e.seat e.at e.event ≡ e ∷ []) × IsLegal (step s e.seat e.at e.event).state es
+
+-- the entries of one seat
+abbrev pub own_entries : ℕ → List Entry → List Entry
+own_entries seat entries = filter (λ e. e.seat == seat) entries

@@ -1,0 +1,4 @@
+//! The rules of the pool machine: its definitions, in `specs/`, and the laws over them.
+#![tactic(auto)]
+
+pub mod state;
