@@ -4,9 +4,8 @@ ghost use Rattle.std.specs.Prelude.{◌≡◌, map, string_bytes, Some};
 ghost use Rattle.poolhost.specs.Numbers.{in_range};
 ghost use Rattle.poolhost.specs.Options.{unit_of, memory_of, cores_of, options_of};
 
-use rm_base::limits::{CORES_MOST, MEMORY_LEAST, MEMORY_MOST};
-
 use crate::numbers::value_of;
+use rm_base::limits::{CORES_MOST, MEMORY_LEAST, MEMORY_MOST};
 
 /// What the words of the command line say of the machine.
 #[derive(Clone, Copy, PartialEq, Eq, Debug)]
@@ -24,7 +23,10 @@ pub fn options_of(words: &[String]) -> Option<Options>
     let [command, first, memory, second, cores] = words else {
         return None;
     };
-    if command.as_str() != "script" || first.as_str() != "--memory" || second.as_str() != "--cores" {
+    if command.as_str() != "script"
+        || first.as_str() != "--memory"
+        || second.as_str() != "--cores"
+    {
         return None;
     }
     let memory = memory_of(memory.as_str())?;
@@ -95,7 +97,10 @@ mod tests {
             ("1099511627777K", None),
             ("18446744073709551615T", None),
             ("99999999999999999999999999999999999999999M", None),
-            ("000000000000000000000000000000000000000100M", Some(104_857_600)),
+            (
+                "000000000000000000000000000000000000000100M",
+                Some(104_857_600),
+            ),
             ("100m", None),
             ("100", None),
             ("100MB", None),
@@ -135,7 +140,10 @@ mod tests {
 
     #[test]
     fn reads_options(rt: HostRuntime) -> Result<(), AllocError> {
-        let options = Some(Options { memory: 104_857_600, cores: 8 });
+        let options = Some(Options {
+            memory: 104_857_600,
+            cores: 8,
+        });
         let cases: [(&[&str], Option<Options>); 10] = [
             (&["script", "--memory", "100M", "--cores", "8"], options),
             (&[], None),

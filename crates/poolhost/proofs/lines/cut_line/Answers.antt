@@ -12,6 +12,6 @@ returns-in-Some-clause-line c =
     let text = c.args.text.now in
     let end = c.in-Some.end in
     let rest : take (length text - (end + 1)) (drop (end + 1) text) ≡ drop (end + 1) text = grind (arith, common_steps) in
-    lines-cut text end c.in-Some.ensures.0 c.in-Some.ensures.1 
+    lines-cut text end c.in-Some.ensures.0 c.in-Some.ensures.1
     ∙ ap (λ line. line ∷ lines (drop (end + 1) text)) (sym c.without_return.ensures)
     ∙ ap (λ after. c.without_return.result.now ∷ lines after) (sym rest)

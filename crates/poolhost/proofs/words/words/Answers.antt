@@ -10,6 +10,6 @@ returns c =
     let line = c.args.line.now in
     let is : (all : List (List ℕ)) → Type 0 = λ all. IfOk c.collect.result (λ parts. map (λ part. part.now) (vec_items parts) ≡ all) in
     subst is (words-inner line (sym c.has_outer_space.ensures ∙ c.if-has_outer_space.false)) (map_from_collect _ c.collect.ensures.ran
-      (YieldsList-from_filter _ (λ piece. nat_lt 0 (length piece))
-      (YieldsList-at c.filter.ensures.source (YieldsList-from_str_split 32 line (lit< tt) c.split.ensures.text c.split.ensures.has_more c.split.ensures.pattern))
-      c.filter.ensures.closure (λ x b q k. search (rules, tests, not_empty))))
+    (YieldsList-from_filter _ (λ piece. nat_lt 0 (length piece))
+    (YieldsList-at c.filter.ensures.source (YieldsList-from_str_split 32 line (lit< tt) c.split.ensures.text c.split.ensures.has_more c.split.ensures.pattern))
+    c.filter.ensures.closure (λ x b q k. search (rules, tests, not_empty))))
