@@ -91,7 +91,7 @@ abbrev pub admitted : State → Waiter → State
 admitted s w = record s {
   sessions = with_phase w.session phase.Running s.sessions;
   running = s.running ++ started s w ∷ [];
-  waiting = without_waiter w.query s.waiting;
+  waiting = without_waiter w.session s.waiting;
 }
 
 -- what is picked is acted on, again and again until nothing is picked, for so many turns at most

@@ -5,3 +5,6 @@ pub mod Accounting
 pub mod Admission
 pub mod Change
 pub mod Step
+pub mod Sound
+pub mod Healthy
+pub mod Conserved

@@ -76,15 +76,17 @@ abbrev pub with_phase : ℕ → Phase → List Session → List Session
 with_phase number now [] = []
 with_phase number now (x ∷ xs) = if x.number == number then (record x { phase = now }) ∷ xs else x ∷ with_phase number now xs
 
--- the waiting queries without the first one of this number
-abbrev pub without_waiter : ℕ → List Waiter → List Waiter
-without_waiter query [] = []
-without_waiter query (w ∷ ws) = if w.query == query then ws else w ∷ without_waiter query ws
+-- the list without the first that passes the test
+abbrev pub without : {A : Type 0} → (A → Bool) → List A → List A
+without test [] = []
+without test (x ∷ xs) = if test x then xs else x ∷ without test xs
 
--- the running queries without the first one of this session
+-- the waiting and the running queries without that of this session, which has one at most
+abbrev pub without_waiter : ℕ → List Waiter → List Waiter
+without_waiter session waiting = without (λ w. w.session == session) waiting
+
 abbrev pub without_runner : ℕ → List Runner → List Runner
-without_runner session [] = []
-without_runner session (r ∷ rs) = if r.session == session then rs else r ∷ without_runner session rs
+without_runner session running = without (λ r. r.session == session) running
 
 abbrev pub is_idle : Phase → Bool
 is_idle phase.Idle = true
@@ -97,6 +99,16 @@ is_running phase.Idle = false
 is_running phase.Waiting = false
 is_running phase.Running = true
 is_running (phase.Ended end) = false
+
+abbrev pub is_waiting : Phase → Bool
+is_waiting phase.Idle = false
+is_waiting phase.Waiting = true
+is_waiting phase.Running = false
+is_waiting (phase.Ended end) = false
+
+-- the phase of the session of this number; one that is not open has no query
+abbrev pub phase_of : List Session → ℕ → Phase
+phase_of sessions number = elim (session_called sessions number) [ Some x ↦ x.phase | None ↦ phase.Idle ]
 
 -- a query is live while its session is not idle
 abbrev pub live_queries : List Session → ℕ

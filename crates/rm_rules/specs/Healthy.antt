@@ -1,0 +1,41 @@
+-- What every state of the machine keeps.
+use Rattle.std.specs.Prelude.{◌≡◌, ℕ, ◌+◌, ◌*◌, ◌<◌, ◌≤◌, Bool, true, false, ◌==◌, List, [], ◌∷◌, length, sum, sum_by, count_by, if◌then◌else◌}
+use Rattle.std.specs.List.{list_all}
+use Rattle.rm_base.specs.declared.limits.TheConstants.{SESSIONS_MOST, ENTRIES_A_QUERY, ENTRIES_A_SESSION}
+use Rattle.rm_rules.specs.Definitions.{total, user_pools}
+use Rattle.rm_rules.specs.State.{State, phase_of, is_waiting, is_running, live_queries, counted_entries}
+use Rattle.rm_rules.specs.Accounting.{lent, free}
+use Rattle.rm_rules.specs.Sound.{IsSound, has_pool}
+
+-- the bytes: each pool has a size, and what is reserved and lent is within the memory in force
+pub record IsCovered (s : State) : Type 0 where
+  pub sizes : length s.actual ≡ length (user_pools s.definitions.pools)
+  pub within : sum s.actual + lent s ≤ s.in_force
+  pub in_force_least : total s.definitions ≤ s.in_force
+  pub in_force_most : s.in_force ≤ s.definitions.memory
+  pub full_above_total : total s.definitions < s.in_force → free s ≡ 0
+  pub granted : sum_by (λ r. r.grant) s.running ≤ s.in_force
+  pub running_known : list_all (λ r. has_pool s.definitions r.pool) s.running ≡ true
+  pub waiting_known : list_all (λ w. has_pool s.definitions w.pool) s.waiting ≡ true
+
+abbrev pub one_if : Bool → ℕ
+one_if b = if b then 1 else 0
+
+-- the queries: each session has one at most, which waits or runs as the session's phase says
+pub record AreInPhase (s : State) : Type 0 where
+  pub waits : (n : ℕ) → count_by (λ w. w.session == n) s.waiting ≡ one_if (is_waiting (phase_of s.sessions n))
+  pub runs : (n : ℕ) → count_by (λ r. r.session == n) s.running ≡ one_if (is_running (phase_of s.sessions n))
+  pub live : length s.running + length s.waiting ≡ live_queries s.sessions
+  pub few : length s.sessions ≤ SESSIONS_MOST
+
+-- the journal: it has room for so many entries, and for those that live queries and open sessions may still make
+pub record HasRoom (entries : ℕ) (s : State) : Type 0 where
+  pub kept : counted_entries s.journal + entries + ENTRIES_A_QUERY * live_queries s.sessions + ENTRIES_A_SESSION * length s.sessions ≤ s.room
+  pub sessions : s.last_session ≤ counted_entries s.journal + entries
+  pub queries : s.last_query ≤ counted_entries s.journal + entries
+
+pub record IsHealthy (s : State) : Type 0 where
+  pub sound : IsSound s.definitions
+  pub covered : IsCovered s
+  pub in_phase : AreInPhase s
+  pub room : HasRoom 0 s
