@@ -2,3 +2,4 @@ mod LinesLemmas
 mod NumbersLemmas
 mod OptionsLemmas
 mod WordsLemmas
+mod NamesLemmas

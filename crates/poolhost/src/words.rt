@@ -1,7 +1,7 @@
 //! The words of a line.
 
-ghost use Rattle.std.specs.Prelude.{◌≡◌, map, IfOk};
-ghost use Rattle.poolhost.specs.Words.{has_outer_space, words};
+ghost use Rattle.std.specs.Prelude.{◌≡◌, map, option_map, IfOk};
+ghost use Rattle.poolhost.specs.Words.{has_outer_space, words, one_behind, two_behind};
 
 use std::alloc::{AllocError, Global};
 
@@ -22,6 +22,28 @@ fn has_outer_space(line: &str) -> bool
     ensures { result ≡ has_outer_space line.now }
 {
     line.starts_with(' ') || line.ends_with(' ')
+}
+
+/// The one word behind the first, where there are two words.
+pub fn one_behind<'a>(words: &[&'a str]) -> Option<&'a str>
+    ensures { option_map (λ word. word.now) result
+        ≡ one_behind (map (λ word. word.now) words.now) }
+{
+    match words {
+        [_, second] => Some(second),
+        _ => None,
+    }
+}
+
+/// The two words behind the first, where there are three words.
+pub fn two_behind<'a>(words: &[&'a str]) -> Option<(&'a str, &'a str)>
+    ensures { option_map (λ pair. (pair.0.now, pair.1.now)) result
+        ≡ two_behind (map (λ word. word.now) words.now) }
+{
+    match words {
+        [_, second, third] => Some((second, third)),
+        _ => None,
+    }
 }
 
 #[cfg(test)]
