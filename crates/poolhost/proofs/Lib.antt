@@ -1,5 +1,4 @@
 mod LinesLemmas
 mod NumbersLemmas
-mod OptionsLemmas
 mod WordsLemmas
 mod NamesLemmas

@@ -20,7 +20,7 @@ named word None valid text =
     sym (cond-false (is_name_text (str_to_ascii_lowercase word)) _ None (false_from_ne_true _ (λ is. false≢true (valid.1 is))))
 named word (Some name) valid text =
     let lower = str_to_ascii_lowercase word in
-    let is : is_name_text lower ≡ true = valid.0 tt in
+    let is : is_name_text lower ≡ true = valid.0 refl in
     let parts = IsNameText-from lower is in
     let rest = NAME_MOST - length lower in
     let fills : length lower + rest ≡ NAME_MOST = omega (arith, parts.within) in

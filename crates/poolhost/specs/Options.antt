@@ -1,5 +1,6 @@
 -- The words of the command line of `script`.
 use Rattle.std.specs.Prelude.{ℕ, Bool, ◌&&◌, ◌-◌, ◌*◌, ◌^◌, ◌==◌, if◌then◌else◌, nat_lt, List, [], ◌∷◌, length, take, Option, Some, None, slice_index, codes}
+use Rattle.std.specs.Option.{option_and_then}
 use Rattle.std.specs.Str.{bytes_eq}
 use Rattle.rm_base.specs.declared.limits.TheConstants.{MEMORY_LEAST, MEMORY_MOST, CORES_MOST}
 use Rattle.poolhost.specs.Numbers.{value_of, in_range}
@@ -35,10 +36,13 @@ both_options None cores = None
 both_options (Some memory) None = None
 both_options (Some memory) (Some cores) = Some (record { memory = memory; cores = cores })
 
--- the options that the words of the command line give: exactly script --memory V --cores N
-abbrev pub options_of : List (List ℕ) → Option Options
-options_of (command ∷ first ∷ memory ∷ second ∷ cores ∷ []) =
+-- the values of the options, where the words are script --memory V --cores N
+abbrev pub values_in : List (List ℕ) → Option (List ℕ × List ℕ)
+values_in (command ∷ first ∷ memory ∷ second ∷ cores ∷ []) =
     if bytes_eq command (codes "script") && bytes_eq first (codes "--memory") && bytes_eq second (codes "--cores")
-    then both_options (memory_of memory) (cores_of cores)
-    else None
-options_of _ = None
+    then Some (memory, cores) else None
+values_in _ = None
+
+-- the options that the words of the command line give
+abbrev pub options_of : List (List ℕ) → Option Options
+options_of words = option_and_then (λ values. both_options (memory_of values.0) (cores_of values.1)) (values_in words)

@@ -1,8 +1,8 @@
 //! The words of the command line of `script`.
 
-ghost use Rattle.std.specs.Prelude.{◌≡◌, map, string_bytes, Some};
+ghost use Rattle.std.specs.Prelude.{◌≡◌, map, string_bytes, Some, option_map};
 ghost use Rattle.poolhost.specs.Numbers.{in_range};
-ghost use Rattle.poolhost.specs.Options.{unit_of, memory_of, cores_of, options_of};
+ghost use Rattle.poolhost.specs.Options.{unit_of, memory_of, cores_of, values_in, options_of};
 
 use crate::numbers::value_of;
 use rm_base::limits::{CORES_MOST, MEMORY_LEAST, MEMORY_MOST};
@@ -20,18 +20,26 @@ pub struct Options {
 pub fn options_of(words: &[String]) -> Option<Options>
     ensures { result ≡ options_of (map string_bytes words.now) }
 {
-    let [command, first, memory, second, cores] = words else {
-        return None;
-    };
-    if command.as_str() != "script"
-        || first.as_str() != "--memory"
-        || second.as_str() != "--cores"
-    {
-        return None;
+    let (memory, cores) = values_in(words)?;
+    Some(Options { memory: memory_of(memory)?, cores: cores_of(cores)? })
+}
+
+/// The values of the options, in the order of the words.
+fn values_in(words: &[String]) -> Option<(&str, &str)>
+    ensures { option_map (λ values. (values.0.now, values.1.now)) result
+        ≡ values_in (map string_bytes words.now) }
+{
+    match words {
+        [command, first, memory, second, cores]
+            if command.as_str() == "script"
+                && first.as_str() == "--memory"
+                && second.as_str() == "--cores" =>
+        {
+            Some((memory.as_str(), cores.as_str()))
+        }
+        [_, _, _, _, _] => None,
+        _ => None,
     }
-    let memory = memory_of(memory.as_str())?;
-    let cores = cores_of(cores.as_str())?;
-    Some(Options { memory, cores })
 }
 
 /// A memory word in bytes: digits and the letter of a unit.
