@@ -21,7 +21,10 @@ pub fn options_of(words: &[String]) -> Option<Options>
     ensures { result ≡ options_of (map string_bytes words.now) }
 {
     let (memory, cores) = values_in(words)?;
-    Some(Options { memory: memory_of(memory)?, cores: cores_of(cores)? })
+    Some(Options {
+        memory: memory_of(memory)?,
+        cores: cores_of(cores)?,
+    })
 }
 
 /// The values of the options, in the order of the words.
@@ -30,14 +33,12 @@ fn values_in(words: &[String]) -> Option<(&str, &str)>
         ≡ values_in (map string_bytes words.now) }
 {
     match words {
-        [command, first, memory, second, cores]
-            if command.as_str() == "script"
+        [command, first, memory, second, cores] => {
+            let is_keyed = command.as_str() == "script"
                 && first.as_str() == "--memory"
-                && second.as_str() == "--cores" =>
-        {
-            Some((memory.as_str(), cores.as_str()))
+                && second.as_str() == "--cores";
+            is_keyed.then_some((memory.as_str(), cores.as_str()))
         }
-        [_, _, _, _, _] => None,
         _ => None,
     }
 }
