@@ -2,3 +2,4 @@ mod LinesLemmas
 mod NumbersLemmas
 mod WordsLemmas
 mod NamesLemmas
+pub mod Written

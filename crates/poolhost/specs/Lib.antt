@@ -4,3 +4,6 @@ pub mod Names
 pub mod Numbers
 pub mod Options
 pub mod Words
+pub mod Texts
+pub mod Transfers
+pub mod InputErrors

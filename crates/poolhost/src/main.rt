@@ -2,9 +2,12 @@
 #![tactic(auto)]
 
 mod command;
+mod input;
 mod lines;
 mod numbers;
 mod options;
+mod output;
+mod texts;
 mod words;
 
 fn main() {}
