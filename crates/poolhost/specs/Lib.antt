@@ -7,3 +7,5 @@ pub mod Words
 pub mod Texts
 pub mod Transfers
 pub mod InputErrors
+pub mod SessionNames
+pub mod Script

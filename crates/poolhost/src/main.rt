@@ -4,9 +4,11 @@
 mod command;
 mod input;
 mod lines;
+mod names;
 mod numbers;
 mod options;
 mod output;
+mod status;
 mod texts;
 mod words;
 
