@@ -1,5 +1,5 @@
 -- What `Name::of` answers is the name that a word spells.
-use Rattle.std.proofs.Common.{◌≡◌, ◌↔◌, ℕ, ◌+◌, ◌-◌, ◌≤◌, Bool, true, false, cond, Option, None, Some, List, ◌++◌, length, replicate, IsSome, IfSome, refl, sym, ap, ◌∙◌, arith}
+use Rattle.std.proofs.Common.{◌≡◌, ◌↔◌, ℕ, ◌+◌, ◌-◌, Bool, true, false, Option, None, Some, List, length, IsSome, IfSome, refl, sym, ap, ◌∙◌, arith}
 use Rattle.std.proofs.lemmas.Bool.{false≢true, cond-true, cond-false, false_from_ne_true}
 use Rattle.std.specs.Str.{str_to_ascii_lowercase}
 use Rattle.rm_base.specs.declared.limits.TheConstants.{NAME_MOST}
