@@ -1,0 +1,5 @@
+mod LinesLemmas
+mod NumbersLemmas
+mod WordsLemmas
+mod NamesLemmas
+pub mod Written
