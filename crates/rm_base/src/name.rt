@@ -14,10 +14,18 @@ pub struct Name {
 }
 
 impl Name {
-    ghost use Rattle.rm_base.specs.Name.{name_text, same_name, general, dbadmin};
+    ghost use Rattle.rm_base.specs.Name.{name_text, name_of, same_name, general, dbadmin};
 
     /// The name that a text spells, in any case.
     pub fn of(text: &str) -> Option<Name>
+        ensures valid { IsSome result ↔ (is_name_text (str_to_ascii_lowercase text.now) ≡ true) }
+        ensures text { IfSome result (λ name. name_text name ≡ str_to_ascii_lowercase text.now) }
+        ensures name { result ≡ name_of text.now }
+    {
+        Name::spelled(text)
+    }
+
+    fn spelled(text: &str) -> Option<Name>
         ensures valid { IsSome result ↔ (is_name_text (str_to_ascii_lowercase text.now) ≡ true) }
         ensures text { IfSome result (λ name. name_text name ≡ str_to_ascii_lowercase text.now) }
     {
