@@ -2,3 +2,5 @@ mod LinesLemmas
 mod NumbersLemmas
 mod WordsLemmas
 pub mod Written
+pub mod ScriptLaws
+pub mod EndedLaws

@@ -8,3 +8,5 @@ pub mod Transfers
 pub mod InputErrors
 pub mod SessionNames
 pub mod Script
+pub mod OptionsFacts
+pub mod Ended

@@ -2,6 +2,8 @@
 #![tactic(auto)]
 
 mod command;
+mod comments;
+mod ended;
 mod input;
 mod lines;
 mod names;
