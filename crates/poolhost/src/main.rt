@@ -1,6 +1,7 @@
 //! The program `poolhost`: a query host whose memory is governed by resource pools.
 #![tactic(auto)]
 
+mod adapters;
 mod command;
 mod comments;
 mod ended;
