@@ -1,4 +1,4 @@
-use Rattle.std.specs.Prelude.{ℕ, Bool, List, [], ◌∷◌, ◌++◌, codes, refl, replicate}
+use Rattle.std.specs.Prelude.{ℕ, Bool, List, ◌++◌, codes, refl, replicate}
 use Rattle.std.specs.Str.{bytes_eq}
 use Rattle.rm_base.specs.declared.name.Name.{Name}
 use Rattle.rm_base.specs.NameText.{text_in}
