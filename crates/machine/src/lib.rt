@@ -1,0 +1,5 @@
+//! The pool machine in code: one desk that answers events by the definitions of `rm_rules`, and keeps their history.
+#![tactic(auto)]
+
+mod budget;
+mod users;
