@@ -1,3 +1,4 @@
 pub mod NameText
 pub mod Name
 pub mod Definitions
+pub mod RefusalText

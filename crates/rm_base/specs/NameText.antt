@@ -41,6 +41,6 @@ abbrev pub is_padded : List ℕ → Bool
 is_padded [] = true
 is_padded (b ∷ bs) = if b == 0 then list_all (λ c. c == 0) bs else is_padded bs
 
--- how a name is kept: its text, and zeros behind it
+-- how a name is kept: its text, and zeros behind it up to the greatest length
 abbrev pub keeps_name : List ℕ → Bool
-keeps_name bytes = is_name_text (text_in bytes) && is_padded bytes
+keeps_name bytes = is_name_text (text_in bytes) && is_padded bytes && (length bytes == NAME_MOST)

@@ -51,6 +51,21 @@ impl Definitions {
             changes: 0,
         })
     }
+
+    /// The same definitions, with the same room.
+    pub fn copy(&self, alloc: Global) -> Result<Definitions, AllocError>
+        ensures { IfOk result (λ definitions. definitions ≡ self.now) }
+    {
+        Ok(Definitions {
+            memory: self.memory,
+            cores: self.cores,
+            pools: self.pools.copy(alloc)?,
+            users: self.users.copy(alloc)?,
+            roles: self.roles.copy(alloc)?,
+            grants: self.grants.copy(alloc)?,
+            changes: self.changes,
+        })
+    }
 }
 
 /// A pool with all defaults.

@@ -1,5 +1,6 @@
 use crate::name::Name;
 use crate::refusal::{CapKind, Refusal};
+use std::fmt;
 
 /// Whose runtime cap a query has exceeded.
 #[derive(Clone, Copy, Debug, PartialEq, Eq)]
@@ -49,4 +50,19 @@ pub enum Reply {
     Cancelled,
     Closed,
     Refused(Refusal),
+}
+
+impl fmt::Display for CapOwner {
+    ghost use Rattle.std.specs.Prelude.{Some};
+    ghost use Rattle.rm_base.specs.RefusalText.{cap_owner_text};
+
+    ghost output = { λ owner. Some (cap_owner_text owner) };
+
+    fn fmt<W: fmt::Write>(&self, f: &mut fmt::Formatter<W>) -> fmt::Result {
+        f.write_str(match self {
+            CapOwner::User => "user",
+            CapOwner::Session => "session",
+            CapOwner::Pool => "pool",
+        })
+    }
 }

@@ -33,6 +33,15 @@ impl Pools {
         })
     }
 
+    /// A table of the same rows, with the same room.
+    pub fn copy(&self, alloc: Global) -> Result<Pools, AllocError>
+        ensures { IfOk result (λ pools. pools ≡ self.now) }
+    {
+        let mut rows = Vec::with_capacity(alloc, POOLS_MOST)?;
+        rows.extend_from_slice(&self.rows)?;
+        Ok(Pools { rows })
+    }
+
     pub fn rows(&self) -> &[PoolRow]
         ensures rows { result.now ≡ self.now }
         ensures room { length self.now ≤ POOLS_MOST }
@@ -73,6 +82,15 @@ impl Users {
         Ok(Users {
             rows: Vec::with_capacity(alloc, USERS_MOST)?,
         })
+    }
+
+    /// A table of the same rows, with the same room.
+    pub fn copy(&self, alloc: Global) -> Result<Users, AllocError>
+        ensures { IfOk result (λ users. users ≡ self.now) }
+    {
+        let mut rows = Vec::with_capacity(alloc, USERS_MOST)?;
+        rows.extend_from_slice(&self.rows)?;
+        Ok(Users { rows })
     }
 
     pub fn rows(&self) -> &[UserRow]
@@ -117,6 +135,15 @@ impl Roles {
         })
     }
 
+    /// A table of the same rows, with the same room.
+    pub fn copy(&self, alloc: Global) -> Result<Roles, AllocError>
+        ensures { IfOk result (λ roles. roles ≡ self.now) }
+    {
+        let mut rows = Vec::with_capacity(alloc, ROLES_MOST)?;
+        rows.extend_from_slice(&self.rows)?;
+        Ok(Roles { rows })
+    }
+
     pub fn rows(&self) -> &[RoleRow]
         ensures rows { result.now ≡ self.now }
         ensures room { length self.now ≤ ROLES_MOST }
@@ -157,6 +184,15 @@ impl Grants {
         Ok(Grants {
             rows: Vec::with_capacity(alloc, GRANTS_MOST)?,
         })
+    }
+
+    /// A table of the same rows, with the same room.
+    pub fn copy(&self, alloc: Global) -> Result<Grants, AllocError>
+        ensures { IfOk result (λ grants. grants ≡ self.now) }
+    {
+        let mut rows = Vec::with_capacity(alloc, GRANTS_MOST)?;
+        rows.extend_from_slice(&self.rows)?;
+        Ok(Grants { rows })
     }
 
     pub fn rows(&self) -> &[GrantRow]

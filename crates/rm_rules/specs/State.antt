@@ -76,15 +76,17 @@ abbrev pub with_phase : ℕ → Phase → List Session → List Session
 with_phase number now [] = []
 with_phase number now (x ∷ xs) = if x.number == number then (record x { phase = now }) ∷ xs else x ∷ with_phase number now xs
 
--- the waiting queries without that of this session, which has one at most
-abbrev pub without_waiter : ℕ → List Waiter → List Waiter
-without_waiter session [] = []
-without_waiter session (w ∷ ws) = if w.session == session then ws else w ∷ without_waiter session ws
+-- the list without the first that passes the test
+abbrev pub without : {A : Type 0} → (A → Bool) → List A → List A
+without test [] = []
+without test (x ∷ xs) = if test x then xs else x ∷ without test xs
 
--- the running queries without that of this session, which has one at most
+-- the waiting and the running queries without that of this session, which has one at most
+abbrev pub without_waiter : ℕ → List Waiter → List Waiter
+without_waiter session waiting = without (λ w. w.session == session) waiting
+
 abbrev pub without_runner : ℕ → List Runner → List Runner
-without_runner session [] = []
-without_runner session (r ∷ rs) = if r.session == session then rs else r ∷ without_runner session rs
+without_runner session running = without (λ r. r.session == session) running
 
 abbrev pub is_idle : Phase → Bool
 is_idle phase.Idle = true

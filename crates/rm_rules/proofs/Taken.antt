@@ -1,0 +1,84 @@
+-- A list without the first that passes a test: sums, lengths and counts.
+use Rattle.std.proofs.Common.{◌≡◌, ℕ, ◌+◌, ◌≤◌, ◌<◌, Bool, true, false, ◌&&◌, cond, eqb, List, [], ◌∷◌, ◌++◌, length, Some, None, Option, refl, sym, ap, ◌∙◌, subst, arith, sum_by, count_by}
+use Rattle.std.specs.Option.{is_some}
+use Rattle.std.specs.List.{find, list_all}
+use Rattle.std.proofs.lemmas.List.Sums.{sum_by-cons}
+use Rattle.std.proofs.lemmas.Bool.{false≢true}
+use Rattle.rm_rules.specs.State.{without}
+
+-- the sum without the one that is found, and that one
+sum_without-turn : {A : Type 0} (f : A → ℕ) (test : A → Bool) (x y : A) (xs : List A) (b : Bool) → cond b (Some x) (find test xs) ≡ Some y
+    → (find test xs ≡ Some y → sum_by f (without test xs) + f y ≡ sum_by f xs) → sum_by f (cond b xs (x ∷ without test xs)) + f y ≡ sum_by f (x ∷ xs)
+sum_without-turn f test x y xs true found rest =
+    let same : x ≡ y = cc in
+    omega (arith, sum_by-cons f x xs, ap f same)
+sum_without-turn f test x y xs false found rest = omega (arith, rest found, sum_by-cons f x xs, sum_by-cons f x (without test xs))
+
+pub sum_without : {A : Type 0} (f : A → ℕ) (test : A → Bool) (y : A) (xs : List A) → find test xs ≡ Some y → sum_by f (without test xs) + f y ≡ sum_by f xs
+sum_without f test y [] found = let none : None ≡ Some y = found in absurd (cc)
+sum_without f test y (x ∷ xs) found = sum_without-turn f test x y xs (test x) found (sum_without f test y xs)
+
+length_without-turn : {A : Type 0} (test : A → Bool) (x y : A) (xs : List A) (b : Bool) → cond b (Some x) (find test xs) ≡ Some y
+    → (find test xs ≡ Some y → length (without test xs) + 1 ≡ length xs) → length (cond b xs (x ∷ without test xs)) + 1 ≡ length (x ∷ xs)
+length_without-turn test x y xs true found rest = omega arith
+length_without-turn test x y xs false found rest = omega (arith, rest found)
+
+pub length_without : {A : Type 0} (test : A → Bool) (y : A) (xs : List A) → find test xs ≡ Some y → length (without test xs) + 1 ≡ length xs
+length_without test y [] found = let none : None ≡ Some y = found in absurd (cc)
+length_without test y (x ∷ xs) found = length_without-turn test x y xs (test x) found (length_without test y xs)
+
+-- what is found passes the test
+passes-turn : {A : Type 0} (test : A → Bool) (x y : A) (xs : List A) (b : Bool) → test x ≡ b → cond b (Some x) (find test xs) ≡ Some y
+    → (find test xs ≡ Some y → test y ≡ true) → test y ≡ true
+passes-turn test x y xs true e found rest = let same : x ≡ y = cc in ap test (sym same) ∙ e
+passes-turn test x y xs false e found rest = rest found
+
+pub found_passes : {A : Type 0} (test : A → Bool) (y : A) (xs : List A) → find test xs ≡ Some y → test y ≡ true
+found_passes test y [] found = let none : None ≡ Some y = found in absurd (cc)
+found_passes test y (x ∷ xs) found = passes-turn test x y xs (test x) refl found (found_passes test y xs)
+
+-- where some pass, one is found
+found-turn : {A : Type 0} (test : A → Bool) (x : A) (xs : List A) (b : Bool) → test x ≡ b → 1 ≤ count_by test (x ∷ xs)
+    → (1 ≤ count_by test xs → (y : A) × (find test xs ≡ Some y)) → (y : A) × (cond b (Some x) (find test xs) ≡ Some y)
+found-turn test x xs true e some rest = (x, refl)
+found-turn test x xs false e some rest = rest (omega (arith, sum_by-cons (λ z. cond (test z) 1 0) x xs, ap {B = ℕ} (λ (c : Bool). cond c 1 0) e))
+
+pub found_counted : {A : Type 0} (test : A → Bool) (xs : List A) → 1 ≤ count_by test xs → (y : A) × (find test xs ≡ Some y)
+found_counted test [] some = absurd (omega arith)
+found_counted test (x ∷ xs) some = found-turn test x xs (test x) refl some (found_counted test xs)
+
+-- both sides of `&&`
+pub and_left : (a b : Bool) → (a && b) ≡ true → a ≡ true
+and_left true b h = refl
+and_left false b h = h
+
+pub and_right : (a b : Bool) → (a && b) ≡ true → b ≡ true
+and_right true b h = h
+and_right false b h = absurd (false≢true h)
+
+pub and_both : (a b : Bool) → a ≡ true → b ≡ true → (a && b) ≡ true
+and_both a b h k = ap (λ c. c && b) h ∙ k
+
+-- a test that all pass, all pass without one, and with one more
+pub all_without : {A : Type 0} (p test : A → Bool) (xs : List A) → list_all p xs ≡ true → list_all p (without test xs) ≡ true
+all_without p test [] all = refl
+all_without {A} p test (x ∷ xs) all =
+    let rest = all_without p test xs (and_right (p x) (list_all p xs) all) in
+    elim (test x) as (λ b. list_all p (cond b xs (x ∷ without test xs)) ≡ true) [
+      true ↦ and_right (p x) (list_all p xs) all
+    | false ↦ and_both (p x) _ (and_left (p x) (list_all p xs) all) rest
+    ]
+
+pub all_push : {A : Type 0} (p : A → Bool) (xs : List A) (y : A) → list_all p xs ≡ true → p y ≡ true → list_all p (xs ++ y ∷ []) ≡ true
+all_push p [] y all here = and_both (p y) true here refl
+all_push p (x ∷ xs) y all here = and_both (p x) _ (and_left (p x) (list_all p xs) all) (all_push p xs y (and_right (p x) (list_all p xs) all) here)
+
+-- what all pass, one of them passes
+pub all_among : {A : Type 0} (p : A → Bool) (front rest : List A) (y : A) → list_all p (front ++ y ∷ rest) ≡ true → p y ≡ true
+all_among p [] rest y all = and_left (p y) (list_all p rest) all
+all_among p (x ∷ front) rest y all = all_among p front rest y (and_right (p x) _ all)
+
+-- what is counted among these is counted
+pub counted_among : {A : Type 0} (test : A → Bool) (front rest : List A) (y : A) → test y ≡ true → 1 ≤ count_by test (front ++ y ∷ rest)
+counted_among test [] rest y here = omega (arith, sum_by-cons (λ z. cond (test z) 1 0) y rest, ap {B = ℕ} (λ (c : Bool). cond c 1 0) here)
+counted_among test (x ∷ front) rest y here = omega (arith, counted_among test front rest y here, sum_by-cons (λ z. cond (test z) 1 0) x (front ++ y ∷ rest))
