@@ -1,5 +1,8 @@
 //! The pool machine in code: one desk that answers events by the definitions of `rm_rules`, and keeps their history.
 #![tactic(auto)]
 
+mod accounts;
 mod budget;
+mod machine;
+mod sessions;
 mod users;
