@@ -1,3 +1,5 @@
 pub mod Bounds
 pub mod Sums
 pub mod Places
+pub mod Seen
+pub mod Heads

@@ -4,5 +4,6 @@
 mod accounts;
 mod budget;
 mod machine;
+mod queue;
 mod sessions;
 mod users;
