@@ -1,2 +1,10 @@
 pub mod Taken
 pub mod Phases
+pub mod Bytes
+pub mod Pools
+pub mod Queue
+pub mod Known
+pub mod Conserved
+pub mod Moving
+pub mod Changing
+pub mod Laws

@@ -51,25 +51,22 @@ phase_of-with_same n p (x ∷ xs) found =
 pub length-with : (n : ℕ) (p : Phase) (xs : List Session) → length (with_phase n p xs) ≡ length xs
 length-with n p [] = refl
 length-with n p (x ∷ xs) = elim (eqb x.number n) as (λ b. length (cond b ((record x { phase = p }) ∷ xs) (x ∷ with_phase n p xs)) ≡ length (x ∷ xs)) [
-      true ↦ refl
-    | false ↦ omega (arith, length-with n p xs)
-    ]
+  | true ↦ refl
+  | false ↦ omega (arith, length-with n p xs)
+]
 
 -- how a new phase changes the number of live queries
-is_live : Session → ℕ
-is_live x = cond (not (is_idle x.phase)) 1 0
-
 live-turn : (b : Bool) (n : ℕ) (p : Phase) (x : Session) (xs ys : List Session) → eqb x.number n ≡ b
     → (is_some (session_called xs n) ≡ true → live_queries ys + one_if (not (is_idle (phase_of xs n))) ≡ live_queries xs + one_if (not (is_idle p)))
     → is_some (cond b (Some x) (session_called xs n)) ≡ true
     → live_queries (cond b ((record x { phase = p }) ∷ xs) (x ∷ ys)) + one_if (not (is_idle (phase_of (x ∷ xs) n))) ≡ live_queries (x ∷ xs) + one_if (not (is_idle p))
 live-turn true n p x xs ys e rest found =
     let here : one_if (not (is_idle (phase_of (x ∷ xs) n))) ≡ one_if (not (is_idle x.phase)) =
-      ap (λ q. one_if (not (is_idle q))) (phase_of-cons x xs n ∙ ap (λ c. cond c x.phase (phase_of xs n)) e) in
+    ap (λ q. one_if (not (is_idle q))) (phase_of-cons x xs n ∙ ap (λ c. cond c x.phase (phase_of xs n)) e) in
     omega (arith, here, sum_by-cons (λ (z : Session). cond (not (is_idle z.phase)) 1 0) x xs, sum_by-cons (λ (z : Session). cond (not (is_idle z.phase)) 1 0) (record x { phase = p }) xs)
 live-turn false n p x xs ys e rest found =
     let there : one_if (not (is_idle (phase_of (x ∷ xs) n))) ≡ one_if (not (is_idle (phase_of xs n))) =
-      ap (λ q. one_if (not (is_idle q))) (phase_of-cons x xs n ∙ ap (λ c. cond c x.phase (phase_of xs n)) e) in
+    ap (λ q. one_if (not (is_idle q))) (phase_of-cons x xs n ∙ ap (λ c. cond c x.phase (phase_of xs n)) e) in
     omega (arith, there, rest found, sum_by-cons (λ (z : Session). cond (not (is_idle z.phase)) 1 0) x xs, sum_by-cons (λ (z : Session). cond (not (is_idle z.phase)) 1 0) x ys)
 
 pub live-with : (n : ℕ) (p : Phase) (xs : List Session) → is_some (session_called xs n) ≡ true
@@ -91,7 +88,7 @@ live-push xs y idle =
 pub open_if_live : (n : ℕ) (xs : List Session) → is_idle (phase_of xs n) ≡ false → is_some (session_called xs n) ≡ true
 open_if_live n xs live =
     let turn : (o : Option Session) → is_idle (elim o [ Some y ↦ y.phase | None ↦ phase.Idle ]) ≡ false → is_some o ≡ true =
-      λ o. elim o as (λ q. is_idle (elim q [ Some y ↦ y.phase | None ↦ phase.Idle ]) ≡ false → is_some q ≡ true) [ Some y ↦ λ _. refl | None ↦ λ h. sym h ] in
+    λ o. elim o as (λ q. is_idle (elim q [ Some y ↦ y.phase | None ↦ phase.Idle ]) ≡ false → is_some q ≡ true) [ Some y ↦ λ _. refl | None ↦ λ h. sym h ] in
     turn (session_called xs n) live
 
 -- the phase of a session that was found

@@ -1,5 +1,5 @@
 -- A list without the first that passes a test: sums, lengths and counts.
-use Rattle.std.proofs.Common.{◌≡◌, ℕ, ◌+◌, ◌≤◌, ◌<◌, Bool, true, false, ◌&&◌, cond, eqb, List, [], ◌∷◌, ◌++◌, length, Some, None, Option, refl, sym, ap, ◌∙◌, subst, arith, sum_by, count_by}
+use Rattle.std.proofs.Common.{◌≡◌, ℕ, ◌+◌, ◌≤◌, ◌<◌, Bool, true, false, ◌&&◌, ◌||◌, not, cond, eqb, List, [], ◌∷◌, ◌++◌, length, Some, None, Option, refl, sym, ap, ◌∙◌, subst, arith, sum_by, count_by}
 use Rattle.std.specs.Option.{is_some}
 use Rattle.std.specs.List.{find, list_all}
 use Rattle.std.proofs.lemmas.List.Sums.{sum_by-cons}
@@ -65,8 +65,8 @@ all_without p test [] all = refl
 all_without {A} p test (x ∷ xs) all =
     let rest = all_without p test xs (and_right (p x) (list_all p xs) all) in
     elim (test x) as (λ b. list_all p (cond b xs (x ∷ without test xs)) ≡ true) [
-      true ↦ and_right (p x) (list_all p xs) all
-    | false ↦ and_both (p x) _ (and_left (p x) (list_all p xs) all) rest
+      | true ↦ and_right (p x) (list_all p xs) all
+      | false ↦ and_both (p x) _ (and_left (p x) (list_all p xs) all) rest
     ]
 
 pub all_push : {A : Type 0} (p : A → Bool) (xs : List A) (y : A) → list_all p xs ≡ true → p y ≡ true → list_all p (xs ++ y ∷ []) ≡ true
@@ -82,3 +82,35 @@ all_among p (x ∷ front) rest y all = all_among p front rest y (and_right (p x)
 pub counted_among : {A : Type 0} (test : A → Bool) (front rest : List A) (y : A) → test y ≡ true → 1 ≤ count_by test (front ++ y ∷ rest)
 counted_among test [] rest y here = omega (arith, sum_by-cons (λ z. cond (test z) 1 0) y rest, ap {B = ℕ} (λ (c : Bool). cond c 1 0) here)
 counted_among test (x ∷ front) rest y here = omega (arith, counted_among test front rest y here, sum_by-cons (λ z. cond (test z) 1 0) x (front ++ y ∷ rest))
+
+-- what all pass, what is found among them passes
+pub all_found : {A : Type 0} (p q : A → Bool) (xs : List A) (y : A) → list_all p xs ≡ true → find q xs ≡ Some y → p y ≡ true
+all_found p q [] y all found = let none : None ≡ Some y = found in absurd (cc)
+all_found p q (x ∷ xs) y all found =
+    let here : p x ≡ true = and_left (p x) (list_all p xs) all in
+    let turn : (b : Bool) → cond b (Some x) (find q xs) ≡ Some y → p y ≡ true =
+    λ b. elim b as (λ c. cond c (Some x) (find q xs) ≡ Some y → p y ≡ true) [
+      | true ↦ λ (e : Some x ≡ Some y). let same : x ≡ y = cc in ap p (sym same) ∙ here
+      | false ↦ all_found p q xs y (and_right (p x) (list_all p xs) all)
+    ] in
+    turn (q x) found
+
+-- both sides of `||`
+pub or_left_false : (a b : Bool) → (a || b) ≡ false → a ≡ false
+or_left_false true b h = h
+or_left_false false b h = refl
+
+pub or_right_false : (a b : Bool) → (a || b) ≡ false → b ≡ false
+or_right_false true b h = absurd (false≢true (sym h))
+or_right_false false b h = h
+
+pub or_both_false : (a b : Bool) → a ≡ false → b ≡ false → (a || b) ≡ false
+or_both_false a b h k = ap (λ c. c || b) h ∙ k
+
+pub not_false : (a : Bool) → not a ≡ true → a ≡ false
+not_false true h = sym h
+not_false false h = refl
+
+pub not_true : (a : Bool) → not a ≡ false → a ≡ true
+not_true true h = refl
+not_true false h = sym h

@@ -5,7 +5,7 @@ use Rattle.rm_base.specs.declared.limits.TheConstants.{SESSIONS_MOST, ENTRIES_A_
 use Rattle.rm_rules.specs.Definitions.{total, user_pools}
 use Rattle.rm_rules.specs.State.{State, phase_of, is_waiting, is_running, live_queries, counted_entries}
 use Rattle.rm_rules.specs.Accounting.{lent, free}
-use Rattle.rm_rules.specs.Sound.{IsSound, has_pool}
+use Rattle.rm_rules.specs.Sound.{IsSound, has_pool, passes_if_set}
 
 -- the bytes: each pool has a size, and what is reserved and lent is within the memory in force
 pub record IsCovered (s : State) : Type 0 where
@@ -13,10 +13,12 @@ pub record IsCovered (s : State) : Type 0 where
   pub within : sum s.actual + lent s ≤ s.in_force
   pub in_force_least : total s.definitions ≤ s.in_force
   pub in_force_most : s.in_force ≤ s.definitions.memory
+  pub in_force_is_total : s.in_force ≤ total s.definitions
   pub full_above_total : total s.definitions < s.in_force → free s ≡ 0
   pub granted : sum_by (λ r. r.grant) s.running ≤ s.in_force
   pub running_known : list_all (λ r. has_pool s.definitions r.pool) s.running ≡ true
   pub waiting_known : list_all (λ w. has_pool s.definitions w.pool) s.waiting ≡ true
+  pub chosen_known : list_all (λ x. passes_if_set (has_pool s.definitions) x.pool) s.sessions ≡ true
 
 abbrev pub one_if : Bool → ℕ
 one_if b = if b then 1 else 0
@@ -28,9 +30,11 @@ pub record AreInPhase (s : State) : Type 0 where
   pub live : length s.running + length s.waiting ≡ live_queries s.sessions
   pub few : length s.sessions ≤ SESSIONS_MOST
 
--- the journal: it has room for so many entries, and for those that live queries and open sessions may still make
+-- The journal has room for so many entries, and for those that live queries and open sessions may still make. Only
+-- accepted statements come on top, and the numbers last given are within its length.
 pub record HasRoom (entries : ℕ) (s : State) : Type 0 where
   pub kept : counted_entries s.journal + entries + ENTRIES_A_QUERY * live_queries s.sessions + ENTRIES_A_SESSION * length s.sessions ≤ s.room
+  pub statements : length s.journal ≤ counted_entries s.journal + s.definitions.changes
   pub sessions : s.last_session ≤ counted_entries s.journal + entries
   pub queries : s.last_query ≤ counted_entries s.journal + entries
 

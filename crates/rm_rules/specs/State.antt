@@ -114,13 +114,13 @@ phase_of sessions number = elim (session_called sessions number) [ Some x ↦ x.
 abbrev pub live_queries : List Session → ℕ
 live_queries sessions = count_by (λ x. not (is_idle x.phase)) sessions
 
+abbrev pub is_defined : Reply → Bool
+is_defined Defined = true
+is_defined _ = false
+
 -- an entry of an accepted statement
 abbrev pub is_definition : Entry → Bool
 is_definition e = is_defined e.reply
-  where
-    is_defined : Reply → Bool
-    is_defined Defined = true
-    is_defined _ = false
 
 -- the journal's entries that count against its room
 abbrev pub counted_entries : List Entry → ℕ

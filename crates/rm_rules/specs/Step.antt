@@ -3,6 +3,7 @@ use Rattle.std.specs.Prelude.{◌≡◌, ℕ, Bool, true, false, ◌==◌, List,
 use Rattle.rm_base.specs.declared.definitions.Definitions.{Definitions}
 use Rattle.rm_base.specs.declared.entry.Entry.{Entry}
 use Rattle.rm_base.specs.declared.event.Event.{Event}
+use Rattle.rm_base.specs.declared.event.Event.TheVariants.{Open, Submit, Finish}
 use Rattle.rm_base.specs.declared.refusal.Refusal.{Refusal}
 use Rattle.rm_base.specs.declared.reply.Reply.{Reply}
 use Rattle.rm_base.specs.declared.reply.Reply.TheVariants as reply
@@ -62,3 +63,14 @@ IsLegal s (e ∷ es) = (made s e.seat e.at e.event ≡ e ∷ []) × IsLegal (ste
 -- the entries of one seat
 abbrev pub own_entries : ℕ → List Entry → List Entry
 own_entries seat entries = filter (λ e. e.seat == seat) entries
+
+-- an event that is a statement
+abbrev pub is_define : Event → Bool
+is_define (Open user) = false
+is_define (Submit session floor) = false
+is_define (Finish session) = false
+
+-- each statement comes from the first seat
+abbrev pub FromFirst : List Entry → Type 0
+FromFirst [] = Unit {0}
+FromFirst (e ∷ es) = (is_define e.event ≡ true → e.seat ≡ 0) × FromFirst es

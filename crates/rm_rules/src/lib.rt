@@ -1,4 +1,5 @@
 //! The rules of the pool machine: its definitions, in `specs/`, and the laws over them.
 #![tactic(auto)]
 
+pub mod history;
 pub mod state;

@@ -1,0 +1,4 @@
+mod LinesLemmas
+mod NumbersLemmas
+mod WordsLemmas
+mod NamesLemmas

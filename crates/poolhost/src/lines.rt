@@ -1,0 +1,89 @@
+//! The lines of a script.
+
+ghost use Rattle.std.specs.Prelude.{◌≡◌, ◌<◌, [], ◌∷◌, length, is_some, IfSome, MatchOption};
+ghost use Rattle.std.specs.Str.Lines.{lines, strip_carriage_return};
+ghost use Rattle.poolhost.specs.Lines.{is_readable};
+
+use memchr::memchr;
+use rm_base::limits::LINE_MOST;
+
+/// The first line of a text and what follows it, if the text has a line.
+///
+/// It looks at each byte of the line once and copies none.
+pub fn cut_line(text: &[u8]) -> Option<(&[u8], &[u8])>
+    ensures line { MatchOption result (lines text.now ≡ [])
+        (λ cut. lines text.now ≡ cut.0.now ∷ lines cut.1.now) }
+    ensures shorter { IfSome result (λ cut. length cut.1.now < length text.now) }
+{
+    if text.is_empty() {
+        return None;
+    }
+    match memchr(b'\n', text) {
+        None => Some((text, &[])),
+        Some(end) => Some((without_return(&text[..end]), &text[end + 1..])),
+    }
+}
+
+/// The text of a line that is not too long and is UTF-8.
+pub fn readable(line: &[u8]) -> Option<&str>
+    ensures readable { is_some result ≡ is_readable line.now }
+    ensures text { IfSome result (λ text. text.now ≡ line.now) }
+{
+    if line.len() > LINE_MOST {
+        return None;
+    }
+    std::str::from_utf8(line).ok()
+}
+
+/// The bytes before a line feed, without the one carriage return at their end.
+fn without_return(line: &[u8]) -> &[u8]
+    ensures { result.now ≡ strip_carriage_return line.now }
+{
+    line.strip_suffix(b"\r").unwrap_or(line)
+}
+
+#[cfg(test)]
+mod tests {
+    use super::{LINE_MOST, cut_line, readable};
+
+    #[test]
+    fn cuts_lines(rt: HostRuntime) {
+        let cases: [(&[u8], Option<(&[u8], &[u8])>); 12] = [
+            (b"", None),
+            (b"a", Some((b"a", b""))),
+            (b"a\n", Some((b"a", b""))),
+            (b"a\r\nb", Some((b"a", b"b"))),
+            (b"a\nb\nc", Some((b"a", b"b\nc"))),
+            (b"\n\n", Some((b"", b"\n"))),
+            (b"\r\nb", Some((b"", b"b"))),
+            (b"a\r\r\n", Some((b"a\r", b""))),
+            (b"a\r", Some((b"a\r", b""))),
+            (b"\r", Some((b"\r", b""))),
+            (b"a\rb\n", Some((b"a\rb", b""))),
+            (b"a \n", Some((b"a ", b""))),
+        ];
+        for (text, cut) in cases {
+            assert_eq!(rt; cut_line(text), cut, "at {text:?}");
+        }
+    }
+
+    #[test]
+    fn reads_texts_that_are_not_too_long(rt: HostRuntime) -> Result<(), std::alloc::AllocError> {
+        let cases: [(&[u8], Option<&str>); 6] = [
+            (b"", Some("")),
+            (b"open a dbadmin", Some("open a dbadmin")),
+            (b"# \xc3\xa4\xe2\x82\xac", Some("# ä€")),
+            (b"\xff", None),
+            (b"# \xc3", None),
+            (b"\xed\xa0\x80", None),
+        ];
+        for (line, text) in cases {
+            assert_eq!(rt; readable(line), text, "at {line:?}");
+        }
+        let longest = vec![in rt.alloc(); b'#'; LINE_MOST]?;
+        assert!(rt; readable(&longest).is_some());
+        let longer = vec![in rt.alloc(); b'#'; LINE_MOST + 1]?;
+        assert!(rt; readable(&longer).is_none());
+        Ok(())
+    }
+}

@@ -1,0 +1,74 @@
+//! The words of a line.
+
+ghost use Rattle.std.specs.Prelude.{◌≡◌, map, option_map, IfOk};
+ghost use Rattle.poolhost.specs.Words.{has_outer_space, words, one_behind, two_behind};
+
+use std::alloc::{AllocError, Global};
+
+/// The words of a line; none for a line that begins or ends with a space.
+pub fn words(alloc: Global, line: &str) -> Result<Vec<&str>, AllocError>
+    ensures { IfOk result (λ parts. map (λ part. part.now) parts.items ≡ words line.now) }
+{
+    if has_outer_space(line) {
+        return Ok(Vec::new(alloc));
+    }
+    line.split(' ')
+        .filter(|piece| !piece.is_empty())
+        .collect(alloc)
+}
+
+/// Whether a line begins or ends with a space.
+fn has_outer_space(line: &str) -> bool
+    ensures { result ≡ has_outer_space line.now }
+{
+    line.starts_with(' ') || line.ends_with(' ')
+}
+
+/// The one word behind the first, where there are two words.
+pub fn one_behind<'a>(words: &[&'a str]) -> Option<&'a str>
+    ensures { option_map (λ word. word.now) result
+        ≡ one_behind (map (λ word. word.now) words.now) }
+{
+    match words {
+        [_, second] => Some(second),
+        _ => None,
+    }
+}
+
+/// The two words behind the first, where there are three words.
+pub fn two_behind<'a>(words: &[&'a str]) -> Option<(&'a str, &'a str)>
+    ensures { option_map (λ pair. (pair.0.now, pair.1.now)) result
+        ≡ two_behind (map (λ word. word.now) words.now) }
+{
+    match words {
+        [_, second, third] => Some((second, third)),
+        _ => None,
+    }
+}
+
+#[cfg(test)]
+mod tests {
+    use super::words;
+    use std::alloc::AllocError;
+
+    #[test]
+    fn parts_lines_into_words(rt: HostRuntime) -> Result<(), AllocError> {
+        let cases = [
+            ("", "[]"),
+            ("open", r#"["open"]"#),
+            ("open a dbadmin", r#"["open", "a", "dbadmin"]"#),
+            ("open  a   dbadmin", r#"["open", "a", "dbadmin"]"#),
+            (" open a", "[]"),
+            ("open a ", "[]"),
+            (" ", "[]"),
+            ("   ", "[]"),
+            ("done\ta b", r#"["done\ta", "b"]"#),
+            ("ä €  b", r#"["ä", "€", "b"]"#),
+        ];
+        for (line, parts) in cases {
+            let found = words(rt.alloc(), line)?;
+            assert_eq!(rt; format!(in rt.alloc(); "{found:?}")?.as_str(), parts);
+        }
+        Ok(())
+    }
+}

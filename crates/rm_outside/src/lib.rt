@@ -1,0 +1,20 @@
+//! What the host asks of the world outside: input, output, files, spill files and the store.
+#![tactic(auto)]
+
+pub mod call_plan;
+mod copy;
+pub mod failing_sink;
+pub mod failing_source;
+pub mod keeper;
+pub mod memory_keeper;
+pub mod memory_shelf;
+pub mod memory_sink;
+pub mod memory_source;
+pub mod memory_spool;
+pub mod outside;
+pub mod shelf;
+pub mod sink;
+pub mod source;
+pub mod spool;
+#[cfg(test)]
+mod tests;

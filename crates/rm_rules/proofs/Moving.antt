@@ -1,0 +1,188 @@
+-- What admission keeps.
+use Rattle.std.proofs.Common.{◌≡◌, ℕ, zero, suc, ◌+◌, ◌-◌, ◌*◌, ◌≤◌, ◌<◌, Bool, true, false, ◌&&◌, ◌||◌, not, cond, eqb, leb, List, [], ◌∷◌, ◌++◌, length, Some, None, Option, refl, sym, ap, ◌∙◌, subst, arith, sum, sum_by, count_by, min, map}
+use Rattle.std.specs.Option.{is_some}
+use Rattle.std.specs.List.{find, list_any, list_all, zip}
+use Rattle.std.proofs.lemmas.List.Sums.{sum_by-cons, sum_by_push}
+use Rattle.std.proofs.lemmas.List.{length_push}
+use Rattle.std.proofs.lemmas.Bool.{eqb-true, eq-eqb, false≢true}
+use Rattle.std.proofs.lemmas.Bool.Decides.{nat_tests}
+use Rattle.rm_base.specs.Name.{same_name, general}
+use Rattle.rm_rules.specs.declared.state.Phase.{Phase}
+use Rattle.rm_rules.specs.declared.state.Phase.TheVariants as phase
+use Rattle.rm_rules.specs.declared.state.Session.{Session}
+use Rattle.rm_rules.specs.declared.state.Waiter.{Waiter}
+use Rattle.rm_rules.specs.declared.state.Runner.{Runner}
+use Rattle.rm_rules.specs.Definitions.{user_pools, total}
+use Rattle.rm_rules.specs.State.{State, session_called, phase_of, with_phase, without_waiter, without_runner, is_idle, is_waiting, is_running, live_queries, counted_entries}
+use Rattle.rm_rules.specs.Accounting.{used, debt, unused, unused_of, reserves, reserve_of, lent, free, general_size}
+use Rattle.rm_rules.specs.Admission.{ask_of, need, poolfit, can_lend, judged_for, started, admitted, first_entitled, repeated, settled}
+use Rattle.rm_rules.specs.Sound.{IsSound, has_pool, passes_if_set}
+use Rattle.rm_rules.specs.Healthy.{IsCovered, AreInPhase, HasRoom, IsHealthy, one_if}
+use Rattle.rm_rules.proofs.Taken.{sum_without, length_without, found_passes, found_counted, all_without, all_push, all_among, counted_among, and_left, and_right}
+use Rattle.rm_rules.proofs.Phases.{phase_of-with_other, phase_of-with_same, length-with, live-with, open_if_live, phase_of-found}
+use Rattle.rm_rules.proofs.Bytes.{apart-zip, absent-zip, general-absent, user_pools-distinct, lent-push}
+use Rattle.rm_rules.proofs.Known.{chosen-with}
+use Rattle.rm_rules.proofs.Queue.{IsAmong, first_entitled_fits}
+use Rattle.rm_rules.proofs.Conserved.{granted-within}
+
+-- what all states keep, with room for so many entries
+pub record AreKept (entries : ℕ) (s : State) : Type 0 where
+  pub sound : IsSound s.definitions
+  pub covered : IsCovered s
+  pub in_phase : AreInPhase s
+  pub room : HasRoom entries s
+
+-- what fits needs no more than is free
+enough : (p : Bool) (n l t f : ℕ) → (p && (eqb n 0 || (leb l t && leb n f))) ≡ true → n ≤ f
+enough p n l t f h = grind (arith, nat_tests)
+
+-- GENERAL's use after an admission is within its size
+pub lent-admitted : (s : State) (w : Waiter) → IsSound s.definitions → (judged_for s w).fits ≡ true → lent (admitted s w) ≤ lent s + need s w.pool (ask_of s w)
+lent-admitted s w sound fits =
+    lent-push s.running (started s w) (reserves s)
+    (apart-zip (user_pools s.definitions.pools) s.actual (user_pools-distinct s.definitions.pools sound.pools_distinct))
+    (absent-zip general (user_pools s.definitions.pools) s.actual (general-absent s.definitions.pools sound.general_first sound.pools_distinct))
+
+within-admitted : (s : State) (w : Waiter) → IsSound s.definitions → IsCovered s → (judged_for s w).fits ≡ true → sum s.actual + lent (admitted s w) ≤ s.in_force
+within-admitted s w sound covered fits =
+    let needs : need s w.pool (ask_of s w) ≤ free s = enough (poolfit s w.pool (ask_of s w)) (need s w.pool (ask_of s w)) _ _ (free s) fits in
+    omega (arith, lent-admitted s w sound fits, covered.within)
+
+pub covered-admitted : (s : State) (w : Waiter) → IsSound s.definitions → IsCovered s → first_entitled s ≡ Some w → IsCovered (admitted s w)
+covered-admitted s w sound covered picked =
+    let f = first_entitled_fits s w picked in
+    let known : has_pool s.definitions w.pool ≡ true =
+    all_among (λ x. has_pool s.definitions x.pool) f.0.front f.0.rest w (subst (λ (l : List Waiter). list_all (λ x. has_pool s.definitions x.pool) l ≡ true) f.0.split covered.waiting_known) in
+    let within = within-admitted s w sound covered f.1 in
+    let running = all_push (λ x. has_pool s.definitions x.pool) s.running (started s w) covered.running_known known in
+    record {
+      sizes = covered.sizes;
+      within = within;
+      in_force_least = covered.in_force_least;
+      in_force_most = covered.in_force_most;
+      in_force_is_total = covered.in_force_is_total;
+      full_above_total = λ above. absurd (omega (arith, above, covered.in_force_is_total));
+      granted = granted-within (admitted s w) sound covered.sizes within running;
+      running_known = running;
+      waiting_known = all_without (λ x. has_pool s.definitions x.pool) (λ x. eqb x.session w.session) s.waiting covered.waiting_known;
+      chosen_known = chosen-with s.definitions w.session phase.Running s.sessions covered.chosen_known;
+    }
+
+one_or_none : (b : Bool) → 1 ≤ one_if b → b ≡ true
+one_or_none true h = refl
+one_or_none false h = absurd (omega arith)
+
+waiting-live : (p : Phase) → is_waiting p ≡ true → (is_idle p ≡ false) × (is_running p ≡ false)
+waiting-live phase.Idle h = absurd (false≢true h)
+waiting-live phase.Waiting h = (refl, refl)
+waiting-live phase.Running h = absurd (false≢true h)
+waiting-live (phase.Ended end) h = absurd (false≢true h)
+
+-- the session of a waiting query waits
+session-waits : (s : State) (w : Waiter) → AreInPhase s → IsAmong w s.waiting → is_waiting (phase_of s.sessions w.session) ≡ true
+session-waits s w h among =
+    let counted : 1 ≤ count_by (λ (x : Waiter). eqb x.session w.session) s.waiting =
+    subst (λ (l : List Waiter). 1 ≤ count_by (λ x. eqb x.session w.session) l) (sym among.split)
+    (counted_among (λ x. eqb x.session w.session) among.front among.rest w (eq-eqb w.session w.session refl)) in
+    one_or_none _ (omega (arith, counted, h.waits w.session))
+
+in_phase-same : (s : State) (w y : Waiter) → AreInPhase s → is_waiting (phase_of s.sessions w.session) ≡ true
+    → find (λ (x : Waiter). eqb x.session w.session) s.waiting ≡ Some y
+    → (count_by (λ (x : Waiter). eqb x.session w.session) (without_waiter w.session s.waiting) ≡ one_if (is_waiting (phase_of (with_phase w.session phase.Running s.sessions) w.session)))
+    × (count_by (λ (x : Runner). eqb x.session w.session) (s.running ++ started s w ∷ []) ≡ one_if (is_running (phase_of (with_phase w.session phase.Running s.sessions) w.session)))
+in_phase-same s w y h waits found =
+    let now : phase_of (with_phase w.session phase.Running s.sessions) w.session ≡ phase.Running =
+    phase_of-with_same w.session phase.Running s.sessions (open_if_live w.session s.sessions (waiting-live _ waits).0) in
+    let taken : cond (eqb y.session w.session) 1 0 ≡ 1 = ap {B = ℕ} (λ b. cond b 1 0) (found_passes (λ (x : Waiter). eqb x.session w.session) y s.waiting found) in
+    let put : cond (eqb w.session w.session) 1 0 ≡ 1 = ap {B = ℕ} (λ b. cond b 1 0) (eq-eqb w.session w.session refl) in (
+      omega (arith, sum_without (λ (x : Waiter). cond (eqb x.session w.session) 1 0) (λ x. eqb x.session w.session) y s.waiting found, taken, h.waits w.session, ap one_if waits, ap (λ p. one_if (is_waiting p)) now),
+      omega (arith, sum_by_push (λ (x : Runner). cond (eqb x.session w.session) 1 0) s.running (started s w), put, h.runs w.session, ap one_if (waiting-live _ waits).1, ap (λ p. one_if (is_running p)) now),
+    )
+
+in_phase-other : (s : State) (w y : Waiter) (n : ℕ) → eqb w.session n ≡ false → AreInPhase s
+    → find (λ (x : Waiter). eqb x.session w.session) s.waiting ≡ Some y
+    → (count_by (λ (x : Waiter). eqb x.session n) (without_waiter w.session s.waiting) ≡ one_if (is_waiting (phase_of (with_phase w.session phase.Running s.sessions) n)))
+    × (count_by (λ (x : Runner). eqb x.session n) (s.running ++ started s w ∷ []) ≡ one_if (is_running (phase_of (with_phase w.session phase.Running s.sessions) n)))
+in_phase-other s w y n differs h found =
+    let now = phase_of-with_other w.session n phase.Running s.sessions differs in
+    let of_session : y.session ≡ w.session = eqb-true y.session w.session (found_passes (λ (x : Waiter). eqb x.session w.session) y s.waiting found) in
+    let taken : cond (eqb y.session n) 1 0 ≡ 0 = ap {B = ℕ} (λ b. cond b 1 0) (ap (λ k. eqb k n) of_session ∙ differs) in
+    let put : cond (eqb w.session n) 1 0 ≡ 0 = ap {B = ℕ} (λ b. cond b 1 0) differs in (
+      omega (arith, sum_without (λ (x : Waiter). cond (eqb x.session n) 1 0) (λ x. eqb x.session w.session) y s.waiting found, taken, h.waits n, ap (λ p. one_if (is_waiting p)) now),
+      omega (arith, sum_by_push (λ (x : Runner). cond (eqb x.session n) 1 0) s.running (started s w), put, h.runs n, ap (λ p. one_if (is_running p)) now),
+    )
+
+in_phase-turn : (s : State) (w y : Waiter) (n : ℕ) (b : Bool) → eqb w.session n ≡ b → AreInPhase s → is_waiting (phase_of s.sessions w.session) ≡ true
+    → find (λ (x : Waiter). eqb x.session w.session) s.waiting ≡ Some y
+    → (count_by (λ (x : Waiter). eqb x.session n) (without_waiter w.session s.waiting) ≡ one_if (is_waiting (phase_of (with_phase w.session phase.Running s.sessions) n)))
+    × (count_by (λ (x : Runner). eqb x.session n) (s.running ++ started s w ∷ []) ≡ one_if (is_running (phase_of (with_phase w.session phase.Running s.sessions) n)))
+in_phase-turn s w y n true same h waits found =
+    subst (λ (n : ℕ). (count_by (λ (x : Waiter). eqb x.session n) (without_waiter w.session s.waiting) ≡ one_if (is_waiting (phase_of (with_phase w.session phase.Running s.sessions) n)))
+    × (count_by (λ (x : Runner). eqb x.session n) (s.running ++ started s w ∷ []) ≡ one_if (is_running (phase_of (with_phase w.session phase.Running s.sessions) n))))
+    (eqb-true w.session n same) (in_phase-same s w y h waits found)
+in_phase-turn s w y n false differs h waits found = in_phase-other s w y n differs h found
+
+-- the session's query that is found among the waiting ones
+waiter_found : (s : State) (w : Waiter) → IsAmong w s.waiting → (y : Waiter) × (find (λ (x : Waiter). eqb x.session w.session) s.waiting ≡ Some y)
+waiter_found s w among =
+    found_counted (λ (x : Waiter). eqb x.session w.session) s.waiting
+    (subst (λ (l : List Waiter). 1 ≤ count_by (λ x. eqb x.session w.session) l) (sym among.split)
+    (counted_among (λ x. eqb x.session w.session) among.front among.rest w (eq-eqb w.session w.session refl)))
+
+live-admitted : (s : State) (w : Waiter) → AreInPhase s → IsAmong w s.waiting → live_queries (with_phase w.session phase.Running s.sessions) ≡ live_queries s.sessions
+live-admitted s w h among =
+    let waits = session-waits s w h among in
+    let was : one_if (not (is_idle (phase_of s.sessions w.session))) ≡ 1 = ap {B = ℕ} (λ b. one_if (not b)) (waiting-live _ waits).0 in
+    omega (arith, live-with w.session phase.Running s.sessions (open_if_live w.session s.sessions (waiting-live _ waits).0), was)
+
+pub in_phase-admitted : (s : State) (w : Waiter) → AreInPhase s → first_entitled s ≡ Some w → AreInPhase (admitted s w)
+in_phase-admitted s w h picked =
+    let among = (first_entitled_fits s w picked).0 in
+    let waits = session-waits s w h among in
+    let found = waiter_found s w among in
+    record {
+      waits = λ n. (in_phase-turn s w found.0 n (eqb w.session n) refl h waits found.1).0;
+      runs = λ n. (in_phase-turn s w found.0 n (eqb w.session n) refl h waits found.1).1;
+      live = omega (arith, h.live, live-admitted s w h among, length_push s.running (started s w), length_without (λ (x : Waiter). eqb x.session w.session) found.0 s.waiting found.1);
+      few = omega (arith, h.few, length-with w.session phase.Running s.sessions);
+    }
+
+pub room-admitted : (k : ℕ) (s : State) (w : Waiter) → AreInPhase s → HasRoom k s → first_entitled s ≡ Some w → HasRoom k (admitted s w)
+room-admitted k s w h room picked =
+    let live = live-admitted s w h (first_entitled_fits s w picked).0 in
+    record {
+      kept = omega (arith, room.kept, live, length-with w.session phase.Running s.sessions);
+      statements = room.statements;
+      sessions = room.sessions;
+      queries = room.queries;
+    }
+
+pub kept-admitted : (k : ℕ) (s : State) (w : Waiter) → first_entitled s ≡ Some w → AreKept k s → AreKept k (admitted s w)
+kept-admitted k s w picked h = record {
+  sound = h.sound;
+  covered = covered-admitted s w h.sound h.covered picked;
+  in_phase = in_phase-admitted s w h.in_phase picked;
+  room = room-admitted k s w h.in_phase h.room picked;
+}
+
+-- what each turn keeps is kept by all of them
+repeated-turn : (P : State → Type 0) (n : ℕ) (s : State) (o : Option Waiter) → first_entitled s ≡ o → P s
+    → ((w : Waiter) → first_entitled s ≡ Some w → P (repeated first_entitled admitted n (admitted s w)))
+    → P (elim o [ Some w ↦ repeated first_entitled admitted n (admitted s w) | None ↦ s ])
+repeated-turn P n s None e p more = p
+repeated-turn P n s (Some w) e p more = more w e
+
+pub repeated-keeps : (P : State → Type 0) → ((s : State) (w : Waiter) → first_entitled s ≡ Some w → P s → P (admitted s w))
+    → (n : ℕ) (s : State) → P s → P (repeated first_entitled admitted n s)
+repeated-keeps P each zero s p = p
+repeated-keeps P each (suc n) s p = repeated-turn P n s (first_entitled s) refl p (λ w e. repeated-keeps P each n (admitted s w) (each s w e p))
+
+pub kept-settled : (k : ℕ) (s : State) → AreKept k s → AreKept k (settled s)
+kept-settled k s h = repeated-keeps (AreKept k) (kept-admitted k) (length s.waiting) s h
+
+-- settling changes no journal, no clock, no definitions
+pub journal-settled : (s : State) → (settled s).journal ≡ s.journal
+journal-settled s = repeated-keeps (λ t. t.journal ≡ s.journal) (λ t w e p. p) (length s.waiting) s refl
+
+pub clock-settled : (s : State) → (settled s).clock ≡ s.clock
+clock-settled s = repeated-keeps (λ t. t.clock ≡ s.clock) (λ t w e p. p) (length s.waiting) s refl

@@ -1,0 +1,56 @@
+//! The laws over all histories. Each is the contract of a function that does nothing.
+
+ghost use Rattle.std.specs.Prelude.{◌≡◌, ℕ, ◌≤◌, ◌++◌, List, Some};
+ghost use Rattle.rm_base.specs.declared.definitions.Definitions.{Definitions};
+ghost use Rattle.rm_base.specs.declared.entry.Entry.{Entry};
+ghost use Rattle.rm_base.specs.declared.event.Event.{Event};
+ghost use Rattle.rm_rules.specs.declared.state.Waiter.{Waiter};
+ghost use Rattle.rm_rules.specs.Definitions.{pool_row};
+ghost use Rattle.rm_rules.specs.Budget.{cap};
+ghost use Rattle.rm_rules.specs.State.{State, start};
+ghost use Rattle.rm_rules.specs.Accounting.{used};
+ghost use Rattle.rm_rules.specs.Admission.{first_entitled, admitted};
+ghost use Rattle.rm_rules.specs.Step.{step, made, replay, IsLegal};
+ghost use Rattle.rm_rules.specs.Sound.{IsSound};
+ghost use Rattle.rm_rules.specs.Healthy.{IsHealthy};
+ghost use Rattle.rm_rules.specs.Conserved.{ConservedAfterEach, KeepsGrants};
+
+/// Every state that a history leaves, from sound definitions on, is healthy.
+pub fn histories_are_healthy()
+    ensures { (d : Definitions) (room : ℕ) (entries : List Entry)
+        → IsSound d
+        → IsHealthy (replay (start d room) entries) }
+{}
+
+/// After each entry of a history, running grants, unused reservations and GENERAL's free bytes add up to the memory in
+/// force, and the accounts with them.
+pub fn conserved_after_each_event()
+    ensures { (d : Definitions) (room : ℕ) (entries : List Entry)
+        → IsSound d
+        → ConservedAfterEach (start d room) entries }
+{}
+
+/// No event changes a grant, and none but Finish takes one away.
+pub fn grants_are_kept()
+    ensures { (s : State) (seat at : ℕ) (event : Event)
+        → KeepsGrants s (step s seat at event).state event }
+{}
+
+/// Right after each admission the pool's use is within its cap, under the definitions in force.
+pub fn admissions_stay_within_the_cap()
+    ensures { (s : State) (w : Waiter)
+        → first_entitled s ≡ Some w
+        → used w.pool (admitted s w).running ≤ cap s.definitions (pool_row s.definitions w.pool) }
+{}
+
+/// A legal history goes on with what an event makes, and leads where the event leads.
+pub fn histories_go_on()
+    ensures legal { (s : State) (entries : List Entry) (seat at : ℕ) (event : Event)
+        → IsLegal s entries
+        → IsLegal s (entries ++ made (replay s entries) seat at event) }
+    ensures replays { (s : State) (entries : List Entry) (seat at : ℕ) (event : Event)
+        → replay s (entries ++ made (replay s entries) seat at event) ≡ (step (replay s entries) seat at event).state }
+    ensures journal { (s : State) (entries : List Entry)
+        → IsLegal s entries
+        → (replay s entries).journal ≡ s.journal ++ entries }
+{}
