@@ -3,3 +3,4 @@ pub mod Sums
 pub mod Places
 pub mod Seen
 pub mod Heads
+pub mod Settling

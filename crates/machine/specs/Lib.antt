@@ -1,3 +1,4 @@
 pub mod Budget
 pub mod Accounts
 pub mod Capacity
+pub mod Answers

@@ -6,4 +6,5 @@ mod budget;
 mod machine;
 mod queue;
 mod sessions;
+mod told;
 mod users;
