@@ -4,3 +4,4 @@ pub mod Places
 pub mod Seen
 pub mod Heads
 pub mod Settling
+pub mod Submitting

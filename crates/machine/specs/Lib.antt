@@ -2,3 +2,4 @@ pub mod Budget
 pub mod Accounts
 pub mod Capacity
 pub mod Answers
+pub mod Refusals

@@ -10,6 +10,7 @@ use std::marker::Model;
 mod events;
 mod fit;
 mod settle;
+mod told;
 
 /// How many entries the journal holds beyond its room and those of accepted statements, for queries that make more
 /// than were kept free.

@@ -1,5 +1,5 @@
 //! What each event changes, or why it is refused.
-ghost use Rattle.std.specs.Prelude.{◌≡◌, ◌<◌, ◌≤◌, ◌*◌, false, Some, Ok, Err, IfOk, IfErr, OnErr};
+ghost use Rattle.std.specs.Prelude.{◌≡◌, ◌<◌, ◌≤◌, ◌*◌, false, Some, Ok, Err, is_some, length, IfOk, IfErr, OnErr};
 ghost use Rattle.rm_base.specs.declared.limits.TheConstants.{SESSIONS_MOST};
 
 use super::Machine;
@@ -16,10 +16,11 @@ use rm_rules::state::{Phase, Session, Waiter};
 
 impl Machine {
     ghost use Rattle.rm_rules.specs.State.{session_of, session_called, session_pool, counted_entries};
-    ghost use Rattle.rm_rules.specs.Definitions.{pool_row};
+    ghost use Rattle.rm_rules.specs.Definitions.{pool_row, user_called, usage};
     ghost use Rattle.rm_rules.specs.Sound.{IsSound};
     ghost use Rattle.machine.specs.Budget.{if_too_large};
-    ghost use Rattle.rm_rules.specs.Change.{is_journal_full, opening, submitting_to, submitting, finishing, change};
+    ghost use Rattle.rm_rules.specs.Change.{is_journal_full, opening, submitted, submitting_to, submitting, finishing, change};
+    ghost use Rattle.machine.specs.Refusals.{user_refusal, size_refusal};
     ghost use Rattle.rm_rules.specs.Healthy.{IsHealthy};
     ghost use Rattle.machine.specs.Answers.{answer_of};
 
@@ -88,29 +89,56 @@ impl Machine {
         Ok(Told::Says(Reply::Opened(number)))
     }
 
-    /// A new query of this session in this pool, queued now.
-    fn submitting_to(&mut self, x: Session, pool: Name, floor: u64) -> Result<Told, Refusal>
-        requires healthy { IsHealthy self.old }
-        requires found { session_called self.old.sessions x.number ≡ Some x }
-        ensures ok { IfOk result (λ told. submitting_to self.old x pool floor ≡ Ok (record { state = self.new; answer = answer_of told })) }
-        ensures err { IfErr result (λ refusal. submitting_to self.old x pool floor ≡ Err refusal) }
-        ensures kept { OnErr result (self.new ≡ self.old) }
+    fn has_user(&self, user: Name) -> bool
+        ensures { result ≡ is_some (user_called self.now.definitions.users user) }
+    {
+        user_called(self.definitions.users.rows(), user).is_some()
+    }
+
+    fn has_usage(&self, user: Name, pool: Name) -> bool
+        ensures { result ≡ usage self.now.definitions user pool }
+    {
+        usage(&self.definitions, user, pool)
+    }
+
+    /// Why this session's user may not submit to this pool now.
+    fn user_refusal(&self, x: &Session, pool: Name) -> Option<Refusal>
+        ensures { result ≡ user_refusal self.now x.now pool }
     {
         if !is_idle(x.phase) {
-            return Err(Refusal::SessionBusy);
+            return Some(Refusal::SessionBusy);
         }
-        if user_called(self.definitions.users.rows(), x.user).is_none() {
-            return Err(Refusal::NoSuchUser(x.user));
+        if !self.has_user(x.user) {
+            return Some(Refusal::NoSuchUser(x.user));
         }
-        if !usage(&self.definitions, x.user, pool) {
-            return Err(Refusal::NoUsage(pool));
+        if !self.has_usage(x.user, pool) {
+            return Some(Refusal::NoUsage(pool));
         }
-        if let Some(refusal) = self.if_too_large(pool, x.user, floor) {
-            return Err(refusal);
+        None
+    }
+
+    /// Why a query with this floor has no place.
+    fn size_refusal(&self, x: &Session, pool: Name, floor: u64) -> Option<Refusal>
+        requires { IsHealthy self.now }
+        ensures { result ≡ size_refusal self.now x.now pool floor }
+    {
+        let too_large = self.if_too_large(pool, x.user, floor);
+        if too_large.is_some() {
+            return too_large;
         }
         if self.is_journal_full(live_queries(&self.sessions) + 1, self.sessions.len()) {
-            return Err(Refusal::JournalFull(self.room));
+            return Some(Refusal::JournalFull(self.room));
         }
+        None
+    }
+
+    /// A new query of this session joins the queue now.
+    fn submit(&mut self, x: &Session, pool: Name, floor: u64) -> Told
+        requires waiting { length self.old.waiting < SESSIONS_MOST }
+        requires queries { self.old.last_query ≤ self.old.room }
+        ensures state { self.new ≡ (submitted self.old x.now pool floor).state }
+        ensures answer { answer_of result ≡ (submitted self.old x.now pool floor).answer }
+    {
         let query = self.last_query + 1;
         self.waiting.push_reserved(Waiter {
             query,
@@ -124,7 +152,24 @@ impl Machine {
         });
         set_phase(&mut self.sessions, x.number, Phase::Waiting);
         self.last_query = query;
-        Ok(Told::Tells(x.number))
+        Told::Tells(x.number)
+    }
+
+    /// A new query of this session in this pool.
+    fn submitting_to(&mut self, x: &Session, pool: Name, floor: u64) -> Result<Told, Refusal>
+        requires healthy { IsHealthy self.old }
+        requires found { session_called self.old.sessions x.now.number ≡ Some x.now }
+        ensures ok { IfOk result (λ told. submitting_to self.old x.now pool floor ≡ Ok (record { state = self.new; answer = answer_of told })) }
+        ensures err { IfErr result (λ refusal. submitting_to self.old x.now pool floor ≡ Err refusal) }
+        ensures kept { OnErr result (self.new ≡ self.old) }
+    {
+        if let Some(refusal) = self.user_refusal(x, pool) {
+            return Err(refusal);
+        }
+        if let Some(refusal) = self.size_refusal(x, pool, floor) {
+            return Err(refusal);
+        }
+        Ok(self.submit(x, pool, floor))
     }
 
     /// A new query of this session, in the session's pool.
@@ -138,7 +183,7 @@ impl Machine {
             return Err(Refusal::NoSuchSession);
         };
         let pool = self.session_pool(&x);
-        self.submitting_to(x, pool, floor)
+        self.submitting_to(&x, pool, floor)
     }
 
     /// The session's query ends, and its grant is given back.
