@@ -1,4 +1,4 @@
 mod LinesLemmas
 mod NumbersLemmas
 mod WordsLemmas
-mod NamesLemmas
+pub mod Written

@@ -1,5 +1,5 @@
 -- The words of a line that neither begins nor ends with a space.
-use Rattle.std.proofs.Common.{◌≡◌, ℕ, Bool, false, List, [], cond, nat_lt, not, ◌==◌, arith, sym, ap}
+use Rattle.std.proofs.Common.{◌≡◌, ℕ, false, List, [], cond, nat_lt, not, ◌==◌, arith, sym, ap}
 use Rattle.std.proofs.lemmas.Bool.Decides.{nat_tests}
 use Rattle.poolhost.specs.Words.{has_outer_space, pieces, words}
 

@@ -8,7 +8,7 @@ use Rattle.poolhost.specs.declared.command.Verb.{Verb}
 use Rattle.poolhost.specs.declared.command.Verb.TheVariants as verb
 use Rattle.poolhost.specs.declared.command.Command.{Command}
 use Rattle.poolhost.specs.declared.command.Command.TheVariants.{Open, Ask, Done}
-use Rattle.poolhost.specs.Names.{name_of}
+use Rattle.rm_base.specs.Name.{name_of}
 use Rattle.poolhost.specs.Numbers.{floor_of}
 use Rattle.poolhost.specs.Words.{is_space, words, one_behind, two_behind}
 

@@ -1,6 +1,10 @@
 pub mod Commands
 pub mod Lines
-pub mod Names
 pub mod Numbers
 pub mod Options
 pub mod Words
+pub mod Texts
+pub mod Transfers
+pub mod InputErrors
+pub mod SessionNames
+pub mod Script

@@ -1,18 +1,22 @@
 -- The words of the command line of `script`.
-use Rattle.std.specs.Prelude.{ℕ, Bool, ◌&&◌, ◌-◌, ◌*◌, ◌^◌, ◌==◌, if◌then◌else◌, nat_lt, List, [], ◌∷◌, length, take, Option, Some, None, slice_index, codes}
+use Rattle.std.specs.Prelude.{ℕ, Bool, ◌&&◌, ◌-◌, ◌*◌, ◌^◌, ◌==◌, if◌then◌else◌, List, [], ◌∷◌, length, take, Option, Some, None, slice_index, codes}
 use Rattle.std.specs.Option.{option_and_then}
 use Rattle.std.specs.Str.{bytes_eq}
 use Rattle.rm_base.specs.declared.limits.TheConstants.{MEMORY_LEAST, MEMORY_MOST, CORES_MOST}
 use Rattle.poolhost.specs.Numbers.{value_of, in_range}
 use Rattle.poolhost.specs.declared.options.Options.{Options}
 
--- how many bytes the letter of a unit stands for: K, M, G or T
+-- a byte is the one of a text of one byte
+abbrev pub is_letter : List ℕ → ℕ → Bool
+is_letter text byte = byte == slice_index text 0
+
+-- how many bytes the letter of a unit stands for
 abbrev pub unit_of : ℕ → Option ℕ
 unit_of letter =
-    if letter == 75 then Some (2 ^ 10)
-    else (if letter == 77 then Some (2 ^ 20)
-    else (if letter == 71 then Some (2 ^ 30)
-    else (if letter == 84 then Some (2 ^ 40) else None)))
+    if is_letter (codes "K") letter then Some (2 ^ 10)
+    else (if is_letter (codes "M") letter then Some (2 ^ 20)
+    else (if is_letter (codes "G") letter then Some (2 ^ 30)
+    else (if is_letter (codes "T") letter then Some (2 ^ 40) else None)))
 
 -- so many units
 abbrev pub times : Option ℕ → Option ℕ → Option ℕ
@@ -28,7 +32,7 @@ memory_of word =
 
 -- a number of cores: digits that don't begin with 0
 abbrev pub cores_of : List ℕ → Option ℕ
-cores_of word = if slice_index word 0 == 48 then None else in_range 1 CORES_MOST (value_of word)
+cores_of word = if is_letter (codes "0") (slice_index word 0) then None else in_range 1 CORES_MOST (value_of word)
 
 -- the options, where both are read
 abbrev pub both_options : Option ℕ → Option ℕ → Option Options

@@ -1,7 +1,6 @@
 //! The commands of a script.
 
 ghost use Rattle.std.specs.Prelude.{◌≡◌, map, IfOk};
-ghost use Rattle.poolhost.specs.Names.{name_of};
 ghost use Rattle.poolhost.specs.Commands.{verb_of, first_word, open_line, ask_line, done_line, command_with, command_of};
 
 use crate::numbers::floor_of;
@@ -80,8 +79,8 @@ fn open_line(words: &[&str]) -> Option<Command>
 {
     let (session, user) = two_behind(words)?;
     Some(Command::Open {
-        session: name_of(session)?,
-        user: name_of(user)?,
+        session: Name::of(session)?,
+        user: Name::of(user)?,
     })
 }
 
@@ -91,7 +90,7 @@ fn ask_line(words: &[&str]) -> Option<Command>
 {
     let (session, floor) = two_behind(words)?;
     Some(Command::Ask {
-        session: name_of(session)?,
+        session: Name::of(session)?,
         floor: floor_of(floor)?,
     })
 }
@@ -102,15 +101,8 @@ fn done_line(words: &[&str]) -> Option<Command>
 {
     let session = one_behind(words)?;
     Some(Command::Done {
-        session: name_of(session)?,
+        session: Name::of(session)?,
     })
-}
-
-/// The name that a word spells.
-fn name_of(word: &str) -> Option<Name>
-    ensures { result ≡ name_of word.now }
-{
-    Name::of(word)
 }
 
 #[cfg(test)]

@@ -2,9 +2,14 @@
 #![tactic(auto)]
 
 mod command;
+mod input;
 mod lines;
+mod names;
 mod numbers;
 mod options;
+mod output;
+mod status;
+mod texts;
 mod words;
 
 fn main() {}

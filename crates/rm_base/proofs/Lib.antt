@@ -1,2 +1,3 @@
 pub mod NameLemmas
 pub mod Names
+pub mod Spelled

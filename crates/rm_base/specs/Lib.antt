@@ -2,3 +2,4 @@ pub mod NameText
 pub mod Name
 pub mod Definitions
 pub mod RefusalText
+pub mod Ranges

@@ -104,13 +104,14 @@ pub fn default_user_row(name: Name) -> UserRow
 #[cfg(test)]
 mod tests {
     use super::*;
+    use crate::rows::{GrantRow, RoleRow};
     use std::test::Fail;
 
     #[test]
     fn begins_with_general_and_dbadmin(rt: HostRuntime) -> Result<(), Fail> {
-        let definitions = Definitions::new(rt.alloc(), 1_073_741_824, 16)?;
+        let mut definitions = Definitions::new(rt.alloc(), 1_073_741_824, 16)?;
         let general = PoolRow {
-            name: Name::of("general").ok_or("general")?,
+            name: Name::general(),
             memory: 0,
             max: None,
             query_max: None,
@@ -125,18 +126,22 @@ mod tests {
             cascade: None,
         };
         let dbadmin = UserRow {
-            name: Name::of("dbadmin").ok_or("dbadmin")?,
+            name: Name::dbadmin(),
             pool: None,
             memory_cap: None,
             cap_ms: None,
         };
-        assert_eq!(rt; definitions.pools.rows(), [general].as_slice());
-        assert_eq!(rt; definitions.users.rows(), [dbadmin].as_slice());
-        assert!(rt; definitions.roles.rows().is_empty());
-        assert!(rt; definitions.grants.rows().is_empty());
-        assert_eq!(rt; definitions.memory, 1_073_741_824);
-        assert_eq!(rt; definitions.cores, 16);
-        assert_eq!(rt; definitions.changes, 0);
+        assert!(rt; definitions.pools.rows() == [general].as_slice());
+        assert!(rt; definitions.users.rows() == [dbadmin].as_slice());
+        let role = RoleRow {
+            name: dbadmin.name,
+            pool: Some(general.name),
+        };
+        let grant = GrantRow::PoolToRole(general.name, dbadmin.name);
+        definitions.roles.add(role);
+        definitions.grants.add(grant);
+        assert!(rt; definitions.roles.rows() == [role].as_slice());
+        assert!(rt; definitions.grants.rows() == [grant].as_slice());
         Ok(())
     }
 }

@@ -1,6 +1,6 @@
 -- What is left when the front of a list is copied into a buffer.
 use Rattle.std.specs.Io.KnownBytes.{ReadConsumes}
-use Rattle.std.proofs.Common.{◌≡◌, ◌++◌, ℕ, List, Some, Ok, min, length, take, drop, sym, ap, subst, ◌∙◌, arith, take_at, length-take-le, take-append-drop, drop_of_length-le}
+use Rattle.std.proofs.Common.{◌≡◌, ◌++◌, ℕ, List, Some, Ok, min, length, take, drop, sym, ap, ◌∙◌, arith, take_at, length-take-le, take-append-drop, drop_of_length-le}
 
 -- the copied bytes are the front, and what stays is the rest
 pub front_of_copy : (all old new : List ℕ) (n : ℕ)

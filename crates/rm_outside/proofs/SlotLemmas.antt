@@ -1,10 +1,10 @@
 -- A spool in memory after an append that took nothing.
-use Rattle.std.proofs.Common.{◌≡◌, ◌∙◌, ◌<◌, ◌≤◌, ◌^◌, ℕ, zero, suc, List, [], ◌∷◌, Option, Some, None, length, get_or, set, is_some, unwrap_or, true, IsTrue, refl, sym, ap, subst, rules, arith}
+use Rattle.std.proofs.Common.{◌≡◌, ◌∙◌, ◌<◌, ◌≤◌, ◌^◌, ℕ, zero, suc, List, [], ◌∷◌, Option, None, length, get_or, set, is_some, unwrap_or, true, refl, sym, ap, subst, arith}
 use Rattle.std.proofs.lemmas.List.{set-get_or, get_or_default}
 use Rattle.std.proofs.lemmas.Grind.{common_steps}
 use Rattle.rm_outside.specs.declared.spool.TheConstants.{SPOOL_FILE_MOST}
 use Rattle.rm_outside.specs.Slots.{files_of, slot_at}
-use Rattle.rm_outside.specs.Spool.{Extends, ExtendsByFront, OthersStay, SameFile, Files}
+use Rattle.rm_outside.specs.Spool.{ExtendsByFront}
 
 -- nothing of a piece is its front
 nothing_of : (slots : List (Option (List ℕ))) (number : ℕ) (piece : List ℕ) (written : ℕ)

@@ -23,8 +23,8 @@ fn source_gives_its_bytes_and_then_the_end(rt: HostRuntime) -> Result<(), Fail> 
         source.read(&mut second),
         source.read(&mut [0]),
     ];
-    assert_eq!(rt; answers, [Ok(3), Ok(0), Ok(2), Ok(0)]);
-    assert_eq!(rt; (first, second, source.faults()), (*b"hel", *b"lo\0", 0));
+    assert!(rt; answers == [Ok(3), Ok(0), Ok(2), Ok(0)]);
+    assert!(rt; (first, second, source.faults()) == (*b"hel", *b"lo\0", 0));
     Ok(())
 }
 
@@ -39,8 +39,8 @@ fn source_fails_at_its_second_read_and_loses_nothing(rt: HostRuntime) -> Result<
         source.read(&mut second),
         source.read(&mut second),
     ];
-    assert_eq!(rt; answers, [Ok(2), Ok(0), Err(Outside::Failed), Ok(2)]);
-    assert_eq!(rt; (second, source.faults()), (*b"cd", 1));
+    assert!(rt; answers == [Ok(2), Ok(0), Err(Outside::Failed), Ok(2)]);
+    assert!(rt; (second, source.faults()) == (*b"cd", 1));
     Ok(())
 }
 
@@ -48,8 +48,8 @@ fn source_fails_at_its_second_read_and_loses_nothing(rt: HostRuntime) -> Result<
 fn sink_keeps_what_is_written(rt: HostRuntime) -> Result<(), Fail> {
     let mut sink = MemorySink::new(rt.alloc());
     let answers = [sink.write(b"ab"), sink.write(b""), sink.write(b"c")];
-    assert_eq!(rt; answers, [Ok(2), Ok(0), Ok(1)]);
-    assert_eq!(rt; (sink.contents(), sink.faults()), (b"abc".as_slice(), 0));
+    assert!(rt; answers == [Ok(2), Ok(0), Ok(1)]);
+    assert!(rt; (sink.contents(), sink.faults()) == (b"abc".as_slice(), 0));
     Ok(())
 }
 
@@ -63,8 +63,8 @@ fn sink_fails_at_its_first_write_and_takes_the_second(rt: HostRuntime) -> Result
         sink.write(b"cd"),
         sink.write(b"e"),
     ];
-    assert_eq!(rt; answers, [Ok(0), Err(Outside::Failed), Ok(2), Ok(1)]);
-    assert_eq!(rt; (sink.contents(), sink.faults()), (b"cde".as_slice(), 1));
+    assert!(rt; answers == [Ok(0), Err(Outside::Failed), Ok(2), Ok(1)]);
+    assert!(rt; (sink.contents(), sink.faults()) == (b"cde".as_slice(), 1));
     Ok(())
 }
 
@@ -75,10 +75,7 @@ fn shelf_gives_the_file_at_a_path(rt: HostRuntime) -> Result<(), Fail> {
     shelf.put(String::from_str(alloc, "a.csv")?, b"old".to_vec(alloc)?)?;
     shelf.put(String::from_str(alloc, "a.csv")?, b"new".to_vec(alloc)?)?;
     let answers = [shelf.load(alloc, "a.csv"), shelf.load(alloc, "b.csv")];
-    assert_eq!(rt;
-        answers,
-        [Ok(b"new".to_vec(alloc)?), Err(ShelfError::Missing)]
-    );
+    assert!(rt; answers == [Ok(b"new".to_vec(alloc)?), Err(ShelfError::Missing)]);
     Ok(())
 }
 
@@ -93,11 +90,8 @@ fn spool_gives_back_what_was_appended(rt: HostRuntime) -> Result<(), Fail> {
     let mut into = [0; 3];
     let read = (spool.read(id, 2, &mut into), spool.read(id, 9, &mut [0]));
     let removed = spool.remove(id);
-    assert_eq!(rt;
-        (appended, read, removed),
-        ((Ok(()), Ok(())), (Ok(3), Ok(0)), Ok(()))
-    );
-    assert_eq!(rt; (into, spool.calls(), spool.written()), (*b"cde", 6, 5));
+    assert!(rt; (appended, read, removed) == ((Ok(()), Ok(())), (Ok(3), Ok(0)), Ok(())));
+    assert!(rt; (into, spool.calls(), spool.written()) == (*b"cde", 6, 5));
     Ok(())
 }
 
@@ -114,7 +108,7 @@ fn keeper_loads_what_was_committed(rt: HostRuntime) -> Result<(), Fail> {
         return Err("no definitions")?;
     };
     let numbers = (loaded.memory, loaded.cores, loaded.changes);
-    assert_eq!(rt; (committed, numbers), (Ok(()), (2_147_483_648, 8, 0)));
-    assert_eq!(rt; loaded.pools.rows(), definitions.pools.rows());
+    assert!(rt; (committed, numbers) == (Ok(()), (2_147_483_648, 8, 0)));
+    assert!(rt; loaded.pools.rows() == definitions.pools.rows());
     Ok(())
 }

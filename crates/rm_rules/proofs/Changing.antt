@@ -23,7 +23,8 @@ use Rattle.rm_rules.specs.Budget.{is_too_large, too_large}
 use Rattle.rm_rules.specs.State.{State, session_called, session_of, if_opened_by, session_pool, phase_of, with_phase, without_runner, is_idle, is_waiting, is_running, live_queries, counted_entries}
 use Rattle.rm_rules.specs.Accounting.{used, grant_in, lent, reserves}
 use Rattle.rm_rules.specs.Change.{Change, change, opening, opened, new_session, submitting, submitting_to, submitted, new_waiter, finishing, finishing_with, finished, runner_of, is_journal_full}
-use Rattle.rm_rules.specs.Sound.{has_pool, passes_if_set}
+use Rattle.rm_rules.specs.Sound.{has_pool}
+use Rattle.rm_base.specs.Ranges.{passes_if_set}
 use Rattle.rm_rules.specs.Healthy.{IsCovered, AreInPhase, HasRoom, one_if}
 use Rattle.rm_rules.proofs.Taken.{sum_without, length_without, found_passes, all_without, all_push, all_found}
 use Rattle.rm_rules.proofs.Phases.{phase_of-with_other, phase_of-with_same, length-with, live-with, phase_of-found, phase_of-push, live-push}

@@ -16,7 +16,8 @@ use Rattle.rm_rules.specs.declared.state.Phase.{Phase}
 use Rattle.rm_rules.specs.declared.state.Session.{Session}
 use Rattle.rm_rules.specs.Definitions.{user_called, role_called, pool_by_role, role_pool, default_pool}
 use Rattle.rm_rules.specs.State.{session_pool, with_phase}
-use Rattle.rm_rules.specs.Sound.{IsSound, has_pool, passes_if_set, begins_with_general}
+use Rattle.rm_rules.specs.Sound.{IsSound, has_pool, begins_with_general}
+use Rattle.rm_base.specs.Ranges.{passes_if_set}
 use Rattle.rm_rules.proofs.Taken.{and_left, and_right, and_both, all_found}
 
 general-turn : (d : Definitions) (pools : List PoolRow) → begins_with_general pools ≡ true → is_some (find (λ r. same_name r.name general) pools) ≡ true

@@ -16,6 +16,10 @@ use Rattle.rm_base.specs.declared.reply.Reply.{Reply}
 use Rattle.rm_base.specs.declared.reply.Reply.TheVariants as reply
 use Rattle.rm_base.specs.declared.rows.PoolRow.{PoolRow}
 use Rattle.rm_base.specs.Name.{general}
+use Rattle.rm_base.specs.Definitions.{fresh}
+use Rattle.rm_base.specs.Ranges.{is_between}
+use Rattle.rm_base.specs.declared.limits.TheConstants.{MEMORY_LEAST, MEMORY_MOST, CORES_MOST}
+use Rattle.std.proofs.lemmas.Bool.Decides.{nat_tests}
 use Rattle.rm_rules.specs.declared.state.Phase.{Phase}
 use Rattle.rm_rules.specs.declared.state.Phase.TheVariants as phase
 use Rattle.rm_rules.specs.declared.state.Session.{Session}
@@ -328,3 +332,34 @@ grants-outcome s seat at (Finish session) (Ok c) is =
 -- no event changes a grant, and none but Finish takes one away
 pub grants-kept : (s : State) (seat at : ℕ) (event : Event) → KeepsGrants s (step s seat at event).state event
 grants-kept s seat at event = grants-outcome s seat at event (change (moved_to s at) seat event) refl
+
+-- the definitions of a machine on which nothing was defined yet are sound
+between : (a b n : ℕ) → a ≤ n → n ≤ b → is_between a b n ≡ true
+between a b n low high = grind (arith, nat_tests)
+
+pub fresh-sound : (memory cores : ℕ) → MEMORY_LEAST ≤ memory → memory ≤ MEMORY_MOST → 1 ≤ cores → cores ≤ CORES_MOST → IsSound (fresh memory cores)
+fresh-sound memory cores memory_least memory_most cores_least cores_most = record {
+  memory = between MEMORY_LEAST MEMORY_MOST memory memory_least memory_most;
+  cores = between 1 CORES_MOST cores cores_least cores_most;
+  changes = omega arith;
+  pool_count = omega arith;
+  user_count = omega arith;
+  role_count = omega arith;
+  grant_count = omega arith;
+  general_first = refl;
+  dbadmin_there = refl;
+  pools_distinct = refl;
+  users_distinct = refl;
+  pools_in_range = refl;
+  users_in_range = refl;
+  pools_within_max = refl;
+  total_least = omega arith;
+  total_most = omega arith;
+  reserved_most = omega arith;
+  quarter_left = omega arith;
+  chains_end = refl;
+  user_pools_there = refl;
+  role_pools_there = refl;
+  grants_known = refl;
+  grants_distinct = refl;
+}

@@ -16,7 +16,8 @@ use Rattle.rm_rules.specs.Definitions.{user_pools, total}
 use Rattle.rm_rules.specs.State.{State, session_called, phase_of, with_phase, without_waiter, without_runner, is_idle, is_waiting, is_running, live_queries, counted_entries}
 use Rattle.rm_rules.specs.Accounting.{used, debt, unused, unused_of, reserves, reserve_of, lent, free, general_size}
 use Rattle.rm_rules.specs.Admission.{ask_of, need, poolfit, can_lend, judged_for, started, admitted, first_entitled, repeated, settled}
-use Rattle.rm_rules.specs.Sound.{IsSound, has_pool, passes_if_set}
+use Rattle.rm_rules.specs.Sound.{IsSound, has_pool}
+use Rattle.rm_base.specs.Ranges.{passes_if_set}
 use Rattle.rm_rules.specs.Healthy.{IsCovered, AreInPhase, HasRoom, IsHealthy, one_if}
 use Rattle.rm_rules.proofs.Taken.{sum_without, length_without, found_passes, found_counted, all_without, all_push, all_among, counted_among, and_left, and_right}
 use Rattle.rm_rules.proofs.Phases.{phase_of-with_other, phase_of-with_same, length-with, live-with, open_if_live, phase_of-found}

@@ -5,7 +5,8 @@ use Rattle.rm_base.specs.declared.limits.TheConstants.{SESSIONS_MOST, ENTRIES_A_
 use Rattle.rm_rules.specs.Definitions.{total, user_pools}
 use Rattle.rm_rules.specs.State.{State, phase_of, is_waiting, is_running, live_queries, counted_entries}
 use Rattle.rm_rules.specs.Accounting.{lent, free}
-use Rattle.rm_rules.specs.Sound.{IsSound, has_pool, passes_if_set}
+use Rattle.rm_rules.specs.Sound.{IsSound, has_pool}
+use Rattle.rm_base.specs.Ranges.{passes_if_set}
 
 -- the bytes: each pool has a size, and what is reserved and lent is within the memory in force
 pub record IsCovered (s : State) : Type 0 where

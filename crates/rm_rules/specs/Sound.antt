@@ -10,38 +10,8 @@ use Rattle.rm_base.specs.declared.rows.GrantRow.{GrantRow}
 use Rattle.rm_base.specs.declared.rows.GrantRow.TheVariants.{PoolToUser, PoolToRole, RoleToUser}
 use Rattle.rm_base.specs.declared.name.Name.{Name}
 use Rattle.rm_base.specs.Name.{same_name, general, dbadmin}
+use Rattle.rm_base.specs.Ranges.{passes_if_set, is_between, is_pool_in_range, is_user_in_range}
 use Rattle.rm_rules.specs.Definitions.{total, reserved, pool_called, user_called, role_called}
-
--- a value, where there is one, passes the test
-abbrev pub passes_if_set : {A : Type 0} → (A → Bool) → Option A → Bool
-passes_if_set test None = true
-passes_if_set test (Some x) = test x
-
--- a number lies between two others, both counted
-abbrev pub is_between : ℕ → ℕ → ℕ → Bool
-is_between least most n = nat_le least n && nat_le n most
-
--- from -100 to 100
-abbrev pub is_priority : ℤ → Bool
-is_priority (pos n) = nat_le n 100
-is_priority (negsuc n) = nat_lt n 100
-
--- every value of the pool is in its range
-abbrev pub is_pool_in_range : PoolRow → Bool
-is_pool_in_range r =
-    nat_le r.memory MEMORY_MOST
-    && (passes_if_set (λ n. nat_le n MEMORY_MOST) r.max
-    && (passes_if_set (λ n. nat_le n MEMORY_MOST) r.query_max
-    && (passes_if_set (is_between 1 CONCURRENCY_MOST) r.parallel
-    && (is_priority r.priority
-    && (nat_le r.threshold_s THRESHOLD_SECONDS_MOST
-    && (passes_if_set (λ n. nat_le n SPAN_MOST) r.queue_ms
-    && (passes_if_set (is_between 1 CONCURRENCY_MOST) r.planned
-    && (passes_if_set (is_between 1 CONCURRENCY_MOST) r.concurrency
-    && passes_if_set (is_between 1 SPAN_MOST) r.cap_ms))))))))
-
-abbrev pub is_user_in_range : UserRow → Bool
-is_user_in_range u = passes_if_set (λ n. nat_le n MEMORY_MOST) u.memory_cap && passes_if_set (is_between 1 SPAN_MOST) u.cap_ms
 
 -- GENERAL stands first, and reserves nothing
 abbrev pub begins_with_general : List PoolRow → Bool

@@ -1,4 +1,4 @@
-use Rattle.std.proofs.Common.{◌≡◌, ◌+◌, ◌-◌, ◌<◌, ◌∷◌, ◌∙◌, ℕ, List, length, take, drop, ap, sym, arith, tests, rules}
+use Rattle.std.proofs.Common.{◌≡◌, ◌+◌, ◌-◌, ◌∷◌, ◌∙◌, length, take, drop, ap, sym, arith, tests, rules}
 use Rattle.std.proofs.lemmas.Grind.{common_steps}
 use Rattle.std.specs.Str.Lines.{lines}
 use Rattle.poolhost.proofs.LinesLemmas.{lines-whole, lines-cut}

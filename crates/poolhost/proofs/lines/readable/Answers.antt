@@ -1,4 +1,4 @@
-use Rattle.std.proofs.Common.{◌∙◌, ◌≡◌, nat_le, length, true, ap, sym, arith, le-leb, ◌&&◌}
+use Rattle.std.proofs.Common.{◌∙◌, length, ap, sym, le-leb, ◌&&◌}
 use Rattle.std.specs.Str.{is_utf8}
 use Rattle.poolhost.proofs.LinesLemmas.{is_ok-utf8}
 use Rattle.poolhost.proofs.lines.readable.Goals as goal

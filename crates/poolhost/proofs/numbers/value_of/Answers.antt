@@ -1,4 +1,4 @@
-use Rattle.std.proofs.Common.{◌∙◌, ◌≡◌, ◌≢◌, ◌==◌, false, slice_index, get_or, rules, sym, eq-eqb}
+use Rattle.std.proofs.Common.{◌∙◌, ◌≡◌, ◌==◌, false, slice_index, rules, eq-eqb}
 use Rattle.std.proofs.lemmas.Bool.{false≢true}
 use Rattle.poolhost.proofs.NumbersLemmas.{parsed}
 use Rattle.poolhost.proofs.numbers.value_of.Goals as goal

@@ -1,8 +1,7 @@
-use Rattle.std.proofs.Common.{◌≡◌, ℕ, List, map, nat_lt, length, lit<, rules, tests, subst, sym, ◌∙◌, IfOk, vec_items, Bor}
+use Rattle.std.proofs.Common.{◌≡◌, ℕ, List, map, nat_lt, length, lit<, rules, tests, subst, sym, ◌∙◌, IfOk, vec_items}
 use Rattle.std.proofs.lemmas.Iterator.Consumers.{map_from_collect, YieldsList-at, YieldsList-from_filter}
 use Rattle.std.proofs.lemmas.Iterator.Splits.{YieldsList-from_str_split}
 use Rattle.poolhost.proofs.WordsLemmas.{words-inner, not_empty}
-use Rattle.poolhost.specs.Words.{pieces, words}
 use Rattle.poolhost.proofs.words.words.Goals as goal
 
 pub returns : goal.returns

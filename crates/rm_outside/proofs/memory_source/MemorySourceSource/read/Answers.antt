@@ -1,4 +1,4 @@
-use Rattle.std.proofs.Common.{◌∙◌, ◌≡◌, ◌++◌, sym, ap, subst, drop, take, min, length, List, ℕ, arith, rules}
+use Rattle.std.proofs.Common.{◌∙◌, ◌≡◌, ◌++◌, sym, ap, drop, take, min, length, rules}
 use Rattle.std.proofs.lemmas.List.{drop-drop}
 use Rattle.rm_outside.proofs.Fronts.{reads_front}
 use Rattle.rm_outside.proofs.memory_source.MemorySourceSource.read.Goals as goal

@@ -1,14 +1,13 @@
 -- What `Name::of` answers is the name that a word spells.
-use Rattle.std.proofs.Common.{◌≡◌, ◌↔◌, ℕ, ◌+◌, ◌-◌, ◌≤◌, Bool, true, false, cond, Option, None, Some, List, ◌++◌, length, replicate, IsSome, IfSome, refl, sym, ap, ◌∙◌, arith}
+use Rattle.std.proofs.Common.{◌≡◌, ◌↔◌, ℕ, ◌+◌, ◌-◌, Bool, true, false, Option, None, Some, List, length, IsSome, IfSome, refl, sym, ap, ◌∙◌, arith}
 use Rattle.std.proofs.lemmas.Bool.{false≢true, cond-true, cond-false, false_from_ne_true}
 use Rattle.std.specs.Str.{str_to_ascii_lowercase}
 use Rattle.rm_base.specs.declared.limits.TheConstants.{NAME_MOST}
 use Rattle.rm_base.specs.declared.name.Name.{Name}
 use Rattle.rm_base.specs.NameText.{is_name_text, keeps_name, text_in}
-use Rattle.rm_base.specs.Name.{name_text}
+use Rattle.rm_base.specs.Name.{name_text, padded, name_kept, name_of}
 use Rattle.rm_base.proofs.NameLemmas.{IsNameText-from, bare_continues, text_in-padded, keeps_name-padded}
 use Rattle.rm_base.proofs.Names.{name_text-eq}
-use Rattle.poolhost.specs.Names.{padded, name_kept, name_of}
 
 name_kept-same : (bytes : List ℕ) (keeps : Bool) (is : keeps_name bytes ≡ keeps) (name : Name) → keeps_name bytes ≡ true → text_in bytes ≡ name_text name → Some name ≡ name_kept bytes keeps is
 name_kept-same bytes true is name kept texts = ap Some (name_text-eq name (record { bytes = bytes; kept = is }) (sym texts))
