@@ -10,7 +10,8 @@ use Rattle.rm_base.specs.declared.name.Name.{Name}
 use Rattle.rm_base.specs.Name.{same_name}
 use Rattle.rm_base.specs.Definitions.{default_pool_row}
 use Rattle.rm_rules.specs.Definitions.{total, reserved, planned, pool_row, pool_called}
-use Rattle.rm_rules.specs.Sound.{IsSound, is_pool_in_range, is_between, passes_if_set, is_priority}
+use Rattle.rm_base.specs.Ranges.{is_pool_in_range, is_between, passes_if_set, is_priority}
+use Rattle.rm_rules.specs.Sound.{IsSound}
 
 -- sound definitions have a machine of 2^50 bytes at most
 pub sound_memory_most : (d : Definitions) → IsSound d → d.memory ≤ MEMORY_MOST

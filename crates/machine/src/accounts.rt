@@ -56,7 +56,8 @@ pub fn used_before(running: &[Runner], session: u32, pool: Name) -> u64
 
 /// All pools but GENERAL.
 pub fn user_pools(pools: &[PoolRow]) -> &[PoolRow]
-    ensures { result.now ≡ user_pools pools.now }
+    ensures rows { result.now ≡ user_pools pools.now }
+    ensures few { length result.now ≤ length pools.now }
 {
     match pools {
         [] => pools,

@@ -5,7 +5,8 @@ ghost use Rattle.rm_base.specs.Name.{same_name, general};
 ghost use Rattle.machine.specs.Budget.{if_too_large};
 ghost use Rattle.rm_rules.specs.Definitions.{total, reserved, planned, pool_row};
 ghost use Rattle.rm_rules.specs.Budget.{threshold, budget, within, cap, narrowed, least_cap, ask};
-ghost use Rattle.rm_rules.specs.Sound.{IsSound, is_pool_in_range};
+ghost use Rattle.rm_base.specs.Ranges.{is_pool_in_range};
+ghost use Rattle.rm_rules.specs.Sound.{IsSound};
 
 use crate::users::{memory_cap, pool_row};
 use rm_base::definitions::Definitions;

@@ -40,7 +40,10 @@ impl Machine {
         requires sound { IsSound self.old.definitions }
         requires covered { IsCovered self.old }
         requires in_phase { AreInPhase self.old }
-        ensures { self.new ≡ settled self.old }
+        ensures state { self.new ≡ settled self.old }
+        ensures sound { IsSound self.new.definitions }
+        ensures covered { IsCovered self.new }
+        ensures in_phase { AreInPhase self.new }
     {
         while let Some(w) = self.first_entitled() {
             self.admit(w);

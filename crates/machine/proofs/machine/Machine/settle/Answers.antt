@@ -22,4 +22,9 @@ loop-w-smaller c =
     omega (arith, waiting-admitted c.loop-w.self c.in-Some.w picked, ap (λ (s : State). length s.waiting) c.admit.ensures)
 
 pub returns : goal.returns
-returns c = sym (settled-none c.loop-w.self (sym c.first_entitled.ensures ∙ c.in_default.is)) ∙ c.loop-w.invariant.same
+returns c = record {
+  state = sym (settled-none c.loop-w.self (sym c.first_entitled.ensures ∙ c.in_default.is)) ∙ c.loop-w.invariant.same;
+  sound = c.loop-w.invariant.sound;
+  covered = c.loop-w.invariant.covered;
+  in_phase = c.loop-w.invariant.in_phase;
+}
