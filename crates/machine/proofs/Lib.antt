@@ -5,3 +5,5 @@ pub mod Seen
 pub mod Heads
 pub mod Settling
 pub mod Submitting
+pub mod Recording
+pub mod Keeping

@@ -3,3 +3,4 @@ pub mod Accounts
 pub mod Capacity
 pub mod Answers
 pub mod Refusals
+pub mod Desk

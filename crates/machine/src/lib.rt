@@ -3,6 +3,7 @@
 
 mod accounts;
 mod budget;
+pub mod desk;
 mod machine;
 mod queue;
 mod sessions;

@@ -137,6 +137,13 @@ impl Machine {
         &self.journal
     }
 
+    /// The definitions in force.
+    pub fn definitions(&self) -> &Definitions
+        ensures { result.now ≡ self.now.definitions }
+    {
+        &self.definitions
+    }
+
     /// The moment of an event is never before the clock. What the clock was is handed back.
     fn move_to(&mut self, at: Moment) -> Moment
         ensures state { self.new ≡ moved_to self.old at }
