@@ -1,0 +1,9 @@
+-- What the fields of an open machine keep of what is known of it as a state.
+use Rattle.std.proofs.Common.{◌≡◌, sym, subst}
+use Rattle.rm_rules.specs.State.{State}
+use Rattle.rm_rules.specs.Sound.{IsSound}
+use Rattle.machine.specs.declared.machine.Machine.TheInside.{Inside}
+use Rattle.machine.specs.Capacity.{seen}
+
+pub sound_inside : (m : Inside) (s : State) → seen m ≡ s → IsSound s.definitions → IsSound m.definitions
+sound_inside m s same sound = let P : State → Type 0 = λ x. IsSound x.definitions in subst P (sym same) sound

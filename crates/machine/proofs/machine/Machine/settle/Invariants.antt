@@ -1,0 +1,10 @@
+use Rattle.std.proofs.Common.{◌≡◌, length}
+use Rattle.rm_rules.specs.Admission.{settled}
+use Rattle.machine.proofs.Settling.{Settles}
+use Rattle.machine.proofs.machine.Machine.settle.Given as goal
+
+abbrev pub invariant-loop-w : goal.invariant-loop-w
+invariant-loop-w l = Settles l.initial.self l.self
+
+abbrev pub decreases-loop-w : goal.decreases-loop-w
+decreases-loop-w l = length l.self.waiting

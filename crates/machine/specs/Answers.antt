@@ -1,0 +1,17 @@
+-- How an accepted event is answered.
+use Rattle.std.specs.Prelude.{ℕ, ◌==◌, not, take_while}
+use Rattle.rm_base.specs.declared.entry.Account.{Account}
+use Rattle.rm_rules.specs.declared.state.Runner.{Runner}
+use Rattle.rm_rules.specs.State.{State}
+use Rattle.rm_rules.specs.Accounting.{account_behind}
+use Rattle.machine.specs.declared.told.Told.{Told}
+use Rattle.machine.specs.declared.told.Told.TheVariants as told
+use Rattle.rm_rules.specs.Change.{Answer, Says, Tells}
+
+abbrev pub answer_of : Told → Answer
+answer_of (told.Says reply) = Says reply
+answer_of (told.Tells session) = Tells session
+
+-- the account of a session's running query
+abbrev pub account_of : State → ℕ → Runner → Account
+account_of s session r = account_behind s (take_while (λ x. not (x.session == session)) s.running) r

@@ -1,0 +1,6 @@
+pub mod Budget
+pub mod Accounts
+pub mod Capacity
+pub mod Answers
+pub mod Refusals
+pub mod Desk

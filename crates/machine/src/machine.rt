@@ -1,0 +1,224 @@
+//! The state of the pool machine in memory, and what an event does to it.
+ghost use Rattle.std.specs.Prelude.{◌≡◌, ◌<◌, ◌≤◌, ◌+◌, true, false, map, length, vec_capacity, IfOk};
+ghost use Rattle.rm_base.specs.declared.limits.TheConstants.{POOLS_MOST, CHANGES_MOST};
+ghost use Rattle.rm_rules.specs.Definitions.{user_pools};
+ghost use Rattle.rm_rules.specs.State.{no_ends, is_defined};
+
+use crate::accounts::user_pools;
+use crate::budget::total;
+use crate::told::Told;
+use rm_base::definitions::Definitions;
+use rm_base::entry::{Answered, EndCounts, Entry, MoveSeen};
+use rm_base::event::Event;
+use rm_base::limits::{CHANGES_MOST, MOVES_KEPT, POOLS_MOST, SESSIONS_MOST};
+use rm_base::moment::Moment;
+use rm_base::refusal::Refusal;
+use rm_base::reply::Reply;
+use rm_base::rows::PoolRow;
+use rm_rules::state::{Runner, Session, Waiter};
+use std::alloc::{AllocError, Global};
+use std::marker::Model;
+
+mod events;
+mod fit;
+mod settle;
+mod told;
+
+/// How many entries the journal holds beyond its room and those of accepted statements, for queries that make more
+/// than were kept free.
+pub const ENTRIES_BEYOND: usize = 1_408;
+
+/// The pools, the queries and the journal, with room for all that there may ever be.
+#[derive(Debug, Drop)]
+pub struct Machine {
+    definitions: Definitions,
+    in_force: u64,
+    actual: Vec<u64>,
+    sessions: Vec<Session>,
+    running: Vec<Runner>,
+    waiting: Vec<Waiter>,
+    clock: Moment,
+    counters: Vec<EndCounts>,
+    moves: Vec<MoveSeen>,
+    last_session: u32,
+    last_query: u64,
+    journal: Vec<Entry>,
+    room: u32,
+    counted: u32,
+}
+
+impl Model for Machine {
+    ghost use Rattle.rm_rules.specs.State.{State};
+    ghost Value = { State };
+
+    ghost use Rattle.machine.specs.Capacity.{seen, HasCapacity};
+    ghost view = { seen };
+
+    ghost invariant = { HasCapacity };
+}
+
+/// The MEMORYSIZE of each pool but GENERAL, with room for all pools that may be.
+fn sizes(alloc: Global, pools: &[PoolRow]) -> Result<Vec<u64>, AllocError>
+    requires { length pools.now ≤ POOLS_MOST }
+    ensures items { IfOk result (λ sizes. sizes.items ≡ map (λ r. r.memory) (user_pools pools.now)) }
+    ensures room { IfOk result (λ sizes. POOLS_MOST ≤ vec_capacity sizes) }
+{
+    let mut sizes = Vec::with_capacity(alloc, POOLS_MOST)?;
+    for row in user_pools(pools) {
+        sizes.push_reserved(row.memory);
+    }
+    Ok(sizes)
+}
+
+/// No ended query for each pool, with room for all pools that may be.
+fn no_ends(alloc: Global, pools: &[PoolRow]) -> Result<Vec<EndCounts>, AllocError>
+    requires { length pools.now ≤ POOLS_MOST }
+    ensures items { IfOk result (λ counters. counters.items ≡ map (λ _. no_ends) pools.now) }
+    ensures room { IfOk result (λ counters. POOLS_MOST ≤ vec_capacity counters) }
+{
+    let mut counters = Vec::with_capacity(alloc, POOLS_MOST)?;
+    for _row in pools {
+        counters.push_reserved(EndCounts {
+            timedout: 0,
+            toolarge: 0,
+            cancelled: 0,
+        });
+    }
+    Ok(counters)
+}
+
+/// The entry is one of an accepted statement.
+fn is_defined(reply: &Reply) -> bool
+    ensures { result ≡ is_defined reply.now }
+{
+    matches!(reply, Reply::Defined)
+}
+
+impl Machine {
+    ghost use Rattle.rm_rules.specs.State.{start, counted_entries};
+    ghost use Rattle.rm_rules.specs.Change.{reply_of};
+    ghost use Rattle.rm_rules.specs.Admission.{settled};
+    ghost use Rattle.rm_rules.specs.Step.{moved_to, recorded, accepted, step};
+    ghost use Rattle.rm_rules.specs.Sound.{IsSound};
+    ghost use Rattle.rm_rules.specs.Healthy.{IsCovered, AreInPhase, HasRoom, IsHealthy};
+    ghost use Rattle.machine.specs.Answers.{answer_of};
+
+    /// The machine at the start. It takes all memory that it will ever use.
+    pub fn new(alloc: Global, definitions: Definitions, room: u32) -> Result<Machine, AllocError>
+        requires { IsSound definitions }
+        ensures { IfOk result (λ machine. machine ≡ start definitions room) }
+    {
+        let entries = room as usize + ENTRIES_BEYOND + CHANGES_MOST as usize;
+        let rows = definitions.pools.rows();
+        let actual = sizes(alloc, rows)?;
+        let counters = no_ends(alloc, rows)?;
+        Ok(Machine {
+            in_force: total(&definitions),
+            definitions,
+            actual,
+            sessions: Vec::with_capacity(alloc, SESSIONS_MOST)?,
+            running: Vec::with_capacity(alloc, SESSIONS_MOST)?,
+            waiting: Vec::with_capacity(alloc, SESSIONS_MOST)?,
+            clock: Moment::of(0),
+            counters,
+            moves: Vec::with_capacity(alloc, MOVES_KEPT)?,
+            last_session: 0,
+            last_query: 0,
+            journal: Vec::with_capacity(alloc, entries)?,
+            room,
+            counted: 0,
+        })
+    }
+
+    /// The history.
+    pub fn entries(&self) -> &[Entry]
+        ensures { result.now ≡ self.now.journal }
+    {
+        &self.journal
+    }
+
+    /// The definitions in force.
+    pub fn definitions(&self) -> &Definitions
+        ensures { result.now ≡ self.now.definitions }
+    {
+        &self.definitions
+    }
+
+    /// The moment of an event is never before the clock. What the clock was is handed back.
+    fn move_to(&mut self, at: Moment) -> Moment
+        ensures state { self.new ≡ moved_to self.old at }
+        ensures before { result ≡ self.old.clock }
+    {
+        let before = self.clock;
+        self.clock = before.later(at);
+        before
+    }
+
+    /// A refused event leaves the clock as it was before it.
+    fn refuse(&mut self, before: Moment, refusal: Refusal) -> Answered
+        ensures state { self.new ≡ record self.old { clock = before } }
+        ensures reply { result.reply ≡ Reply.Refused refusal }
+        ensures entry { result.entry ≡ false }
+        ensures place { result.place ≡ length self.new.journal }
+    {
+        self.clock = before;
+        Answered {
+            reply: Reply::Refused(refusal),
+            place: self.journal.len() as u64,
+            entry: false,
+        }
+    }
+
+    /// One entry more.
+    fn record_entry(&mut self, entry: Entry)
+        requires room { length self.old.journal < self.old.room + ENTRIES_BEYOND + CHANGES_MOST }
+        requires counted { counted_entries self.old.journal < self.old.room }
+        ensures { self.new ≡ recorded self.old entry }
+    {
+        if !is_defined(&entry.reply) {
+            self.counted += 1;
+        }
+        self.journal.push_reserved(entry);
+    }
+
+    /// What changed settles, and the entry is made.
+    fn accept(&mut self, seat: u32, event: &Event, told: Told) -> Answered
+        requires sound { IsSound self.old.definitions }
+        requires covered { IsCovered self.old }
+        requires in_phase { AreInPhase self.old }
+        requires room { HasRoom 1 self.old }
+        ensures state { self.new ≡ (accepted seat event.now (settled self.old) (reply_of (settled self.old) (answer_of told))).state }
+        ensures reply { result.reply ≡ reply_of (settled self.old) (answer_of told) }
+        ensures entry { result.entry ≡ true }
+        ensures place { result.place ≡ length self.new.journal }
+    {
+        self.settle();
+        let reply = self.reply_of(told);
+        self.record_entry(Entry {
+            seat,
+            at: self.clock,
+            event: *event,
+            reply,
+        });
+        Answered {
+            reply,
+            place: self.journal.len() as u64,
+            entry: true,
+        }
+    }
+
+    /// One event.
+    pub fn apply(&mut self, seat: u32, at: Moment, event: &Event) -> Answered
+        requires { IsHealthy self.old }
+        ensures state { self.new ≡ (step self.old seat at event.now).state }
+        ensures reply { result.reply ≡ (step self.old seat at event.now).reply }
+        ensures entry { result.entry ≡ (step self.old seat at event.now).entry }
+        ensures place { result.place ≡ length self.new.journal }
+    {
+        let before = self.move_to(at);
+        match self.change(seat, event) {
+            Ok(told) => self.accept(seat, event, told),
+            Err(refusal) => self.refuse(before, refusal),
+        }
+    }
+}
