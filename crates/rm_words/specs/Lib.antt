@@ -1,0 +1,4 @@
+pub mod Class
+pub mod Word
+pub mod Scan
+pub mod Cut

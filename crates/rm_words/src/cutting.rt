@@ -1,0 +1,36 @@
+ghost use Rattle.std.specs.Prelude.{IfOk};
+ghost use Rattle.rm_words.specs.Cut.{IsCut};
+
+use std::alloc::{AllocError, Global};
+
+use crate::class::class_of;
+use crate::scan::longest;
+use crate::spans::{Cut, Span, Words};
+
+/// Cuts a text into its words, up to the first place without one.
+pub fn cut(alloc: Global, text: &[u8]) -> Result<Cut, AllocError>
+    ensures { IfOk result (λ c. IsCut 0 text.now c.words c.stuck) }
+{
+    let mut spans = Vec::new(alloc);
+    let mut at = 0;
+    while at < text.len() {
+        if class_of(text[at]).is_blank() {
+            at += 1;
+        } else if let Some(count) = longest(&text[at..]) {
+            spans.push(Span {
+                start: at as u64,
+                end: (at + count) as u64,
+            })?;
+            at += count;
+        } else {
+            return Ok(Cut {
+                words: Words::of(spans),
+                stuck: Some(at as u64),
+            });
+        }
+    }
+    Ok(Cut {
+        words: Words::of(spans),
+        stuck: None,
+    })
+}
