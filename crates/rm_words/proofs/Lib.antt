@@ -1,2 +1,4 @@
 pub mod Scans
 pub mod Cuts
+pub mod CutLaws
+pub mod Joins

@@ -239,7 +239,7 @@ pub longest_none : (text : List ℕ) (found : Option ℕ) → longest text ≡ f
 longest_none text None is = none_found text (longest text) is (finds scan.Start 0 None text)
 longest_none text (Some n) is = tt
 
-is_word_not_empty : (text : List ℕ) (n : ℕ) → is_word (take n text) ≡ true → 0 < n
+pub is_word_not_empty : (text : List ℕ) (n : ℕ) → is_word (take n text) ≡ true → 0 < n
 is_word_not_empty text zero h = absurd cc
 is_word_not_empty text (suc n) h = omega arith
 

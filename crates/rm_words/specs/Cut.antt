@@ -1,5 +1,5 @@
 -- how a text is cut into words
-use Rattle.std.specs.Prelude.{◌≡◌, ℕ, ◌+◌, ◌-◌, ◌<◌, ◌≤◌, Option, Some, None, Bool, true, false, ◌⊎◌, List, [], ◌∷◌, length, take, drop, map, All, Any, ◌≢◌}
+use Rattle.std.specs.Prelude.{◌≡◌, ◌≢◌, ℕ, ◌+◌, ◌-◌, ◌<◌, ◌≤◌, Option, Some, None, true, ◌⊎◌, List, [], ◌∷◌, length, take, drop, map, slice_index}
 use Rattle.std.specs.List.{join_with_byte}
 use Rattle.rm_words.specs.declared.class.Class.TheVariants.{Blank}
 use Rattle.rm_words.specs.declared.spans.Span.{Span}
@@ -24,3 +24,45 @@ word_at text span = take (span.end - span.start) (drop span.start text)
 
 abbrev pub words_at : List ℕ → List Span → List (List ℕ)
 words_at text spans = map (word_at text) spans
+
+-- the span lies in the text and is not empty, and its bytes are a word
+pub record IsWordOf (text : List ℕ) (span : Span) : Type 0 where
+  pub rises : span.start < span.end
+  pub within : span.end ≤ length text
+  pub word : is_word (word_at text span) ≡ true
+
+-- from a place on, each span begins where the one before it ends, or later
+abbrev pub Rise : ℕ → List Span → Type 0
+Rise at [] = Unit {0}
+Rise at (span ∷ spans) = (at ≤ span.start) × (span.start < span.end) × Rise span.end spans
+
+-- one of the spans has the byte at k
+abbrev pub IsIn : ℕ → List Span → Type 0
+IsIn k [] = ⊥
+IsIn k (span ∷ spans) = ((span.start ≤ k) × (k < span.end)) ⊎ IsIn k spans
+
+-- where the cut ends: at the place without a word, or with the text
+abbrev pub cut_end : List ℕ → Option ℕ → ℕ
+cut_end text None = length text
+cut_end text (Some at) = at
+
+-- there is no word at the place, and no blank
+pub record IsStuckAt (text : List ℕ) (at : ℕ) : Type 0 where
+  pub within : at < length text
+  pub not_blank : class_of (slice_index text at) ≢ Blank
+  pub no_word : HasNoWord (drop at text)
+
+-- each of these is a word
+abbrev pub AreWords : List (List ℕ) → Type 0
+AreWords [] = Unit {0}
+AreWords (w ∷ ws) = (is_word w ≡ true) × AreWords ws
+
+-- the words with a space between each two
+abbrev pub joined : List (List ℕ) → List ℕ
+joined ws = join_with_byte 32 ws
+
+-- where the words stand in a text that joins them, the first at a place
+abbrev pub spans_from : ℕ → List (List ℕ) → List Span
+spans_from at [] = []
+spans_from at (w ∷ ws) =
+    record { start = at; end = at + length w } ∷ spans_from (at + length w + 1) ws

@@ -2,3 +2,4 @@ pub mod Class
 pub mod Word
 pub mod Scan
 pub mod Cut
+pub mod Token

@@ -7,5 +7,7 @@
 
 pub mod class;
 pub mod cutting;
+pub mod laws;
 pub mod scan;
 pub mod spans;
+pub mod token;
