@@ -19,7 +19,7 @@ no_blank_word : (c : ℕ) (rest : List ℕ) (n : ℕ) → class_of c ≡ Blank �
 no_blank_word c rest zero is_blank = refl
 no_blank_word c rest (suc n) is_blank = ap (λ k. are_word (k ∷ map class_of (take n rest))) is_blank
 
-not_both : (b : Bool) → b ≡ true → b ≡ false → ⊥
+pub not_both : (b : Bool) → b ≡ true → b ≡ false → ⊥
 not_both b yes_word no_word = cc
 
 same_length : (text : List ℕ) (m n : ℕ) → IsLongest text m → IsLongest text n → m ≡ n

@@ -12,11 +12,7 @@ use Rattle.rm_words.specs.Word.{is_word, are_word, IsLongest, HasNoWord}
 use Rattle.rm_words.specs.Scan.{step, accepts}
 use Rattle.rm_words.specs.Cut.{IsCut, ends, blank, word, none, AreWords, joined, spans_from, word_at, words_at}
 use Rattle.rm_words.proofs.Cuts.{drop_drop}
-use Rattle.rm_words.proofs.Scans.{runs, dead_runs, word_runs}
-
-runs-append : (s : Scan) (ks more : List Class) → runs s (ks ++ more) ≡ runs (runs s ks) more
-runs-append s [] more = refl
-runs-append s (k ∷ ks) more = runs-append (step s k) ks more
+use Rattle.rm_words.proofs.Scans.{runs, runs-append, dead_runs, word_runs}
 
 -- no word goes on with a blank
 blank_ends : (s : Scan) (ks : List Class) → accepts s ≡ true → accepts (runs s (class.Blank ∷ ks)) ≡ false

@@ -1,5 +1,5 @@
 -- the scan accepts exactly the words, and finds the longest
-use Rattle.std.proofs.Common.{◌≡◌, ℕ, zero, suc, ◌+◌, ◌<◌, ◌≤◌, Option, Some, None, Bool, true, false, cond, ◌||◌, if◌then◌else◌, List, [], ◌∷◌, length, IfSome, IfNone, take, drop, get_or, map, refl, sym, ◌∙◌, ap, subst, arith}
+use Rattle.std.proofs.Common.{◌≡◌, ℕ, zero, suc, ◌+◌, ◌<◌, ◌≤◌, Option, Some, None, Bool, true, false, cond, ◌||◌, if◌then◌else◌, List, [], ◌∷◌, length, IfSome, IfNone, take, drop, get_or, map, ◌++◌, refl, sym, ◌∙◌, ap, subst, arith}
 use Rattle.std.specs.List.{list_all}
 use Rattle.std.proofs.lemmas.List.{at_drop_more}
 use Rattle.rm_words.specs.declared.class.Class.{Class}
@@ -14,6 +14,10 @@ use Rattle.rm_words.specs.Scan.{step, accepts, is_dead}
 abbrev pub runs : Scan → List Class → Scan
 runs s [] = s
 runs s (k ∷ ks) = runs (step s k) ks
+
+pub runs-append : (s : Scan) (ks more : List Class) → runs s (ks ++ more) ≡ runs (runs s ks) more
+runs-append s [] more = refl
+runs-append s (k ∷ ks) more = runs-append (step s k) ks more
 
 -- behind these n bytes the longest word so far has `best` bytes: how many it has at the text's end
 abbrev pub longest_from : Scan → ℕ → Option ℕ → List ℕ → Option ℕ
@@ -133,7 +137,7 @@ greater_runs (class.Less ∷ ks) = dead_runs ks
 greater_runs (class.Mark ∷ ks) = dead_runs ks
 greater_runs (class.Other ∷ ks) = dead_runs ks
 
-alone : (b : Bool) → b ≡ b || false || false
+pub alone : (b : Bool) → b ≡ b || false || false
 alone true = refl
 alone false = refl
 

@@ -1,5 +1,5 @@
 -- which lists of bytes are words
-use Rattle.std.specs.Prelude.{◌≡◌, ℕ, ◌<◌, ◌≤◌, Bool, true, false, ◌||◌, List, [], ◌∷◌, length, take, map, ◌≢◌}
+use Rattle.std.specs.Prelude.{◌≡◌, ℕ, ◌<◌, ◌≤◌, Bool, true, false, ◌||◌, ◌&&◌, List, [], ◌∷◌, length, take, map, ◌≢◌}
 use Rattle.std.specs.List.{list_all}
 use Rattle.rm_words.specs.declared.class.Class.{Class}
 use Rattle.rm_words.specs.declared.class.Class.TheVariants.{Letter, Digit, Quote, Blank, Less, Greater, Equal, Mark, Other}
@@ -25,14 +25,16 @@ abbrev pub is_number : List Class → Bool
 is_number (Digit ∷ ks) = list_all is_digit ks
 is_number _ = false
 
+abbrev pub is_quote : Class → Bool
+is_quote Quote = true
+is_quote _ = false
+
 -- what may follow an opening quote: anything, with two quotes for one, and a closing quote at the
 -- end. `half` says that a quote stands just before, which closes the text or is the first of two
 abbrev pub closes : Bool → List Class → Bool
 closes half [] = half
-closes false (Quote ∷ ks) = closes true ks
-closes false (_ ∷ ks) = closes false ks
-closes true (Quote ∷ ks) = closes false ks
-closes true (_ ∷ ks) = false
+closes false (k ∷ ks) = closes (is_quote k) ks
+closes true (k ∷ ks) = is_quote k && closes false ks
 
 abbrev pub is_quoted : List Class → Bool
 is_quoted (Quote ∷ ks) = closes false ks

@@ -80,12 +80,12 @@ impl Symbol {
 }
 
 /// The number that digits write, or the greatest `u64` where it is greater.
-fn number_of(digits: &str) -> u64
+fn number_of(digits: &[u8]) -> u64
     requires { AreDigits digits.now }
     ensures { result ≡ min (digits_value 10 digits.now) most }
 {
     let mut value: u64 = 0;
-    for byte in digits.as_bytes() {
+    for byte in digits {
         value = value
             .saturating_mul(10)
             .saturating_add(u64::from(*byte - b'0'));
@@ -102,7 +102,7 @@ pub fn token_at<'a>(text: &'a str, span: Span) -> Token<'a>
     let word = &text[start..end];
     match class_of(text.as_bytes()[start]) {
         Class::Letter => Token::Bare(word),
-        Class::Digit => Token::Number(number_of(word)),
+        Class::Digit => Token::Number(number_of(word.as_bytes())),
         Class::Quote => Token::Quoted(&text[start + 1..end - 1]),
         _ => Token::Sign(Symbol::of(word)),
     }
