@@ -61,10 +61,21 @@ same_cut at text spans others stuck other (none _ c rest _ no_word) (word _ _ n 
 same_cut at text spans others stuck other (none _ _ _ _ _) (none _ _ _ _ _) = (refl, refl)
 
 -- behind n more bytes
-further : (whole : List ℕ) (at : ℕ) (text : List ℕ) (n : ℕ) → at ≤ length whole → drop at whole ≡ text → n ≤ length text
+pub further : (whole : List ℕ) (at : ℕ) (text : List ℕ) (n : ℕ) → at ≤ length whole → drop at whole ≡ text → n ≤ length text
   → (at + n ≤ length whole) × (drop (at + n) whole ≡ drop n text)
 further whole at text n within is fits =
     (omega (arith, length-drop at whole, ap length is), sym (drop_drop at n whole) ∙ ap (λ l. drop n l) is)
+
+-- the longest word at a place is a word of the text
+pub word_here : (whole : List ℕ) (at : ℕ) (text : List ℕ) (n : ℕ) → at ≤ length whole → drop at whole ≡ text → IsLongest text n
+  → IsWordOf whole (record { start = at; end = at + n })
+word_here whole at text n within is longest =
+    let next : (at + n ≤ length whole) × (drop (at + n) whole ≡ drop n text) = further whole at text n within is longest.fits in
+    let span : Span = record { start = at; end = at + n } in
+    let width : at + n - at ≡ n = omega arith in
+    let bytes : word_at whole span ≡ take n text = ap (λ k. take k (drop at whole)) width ∙ ap (λ l. take n l) is in
+    let moves : 0 < n = is_word_not_empty text n longest.word in
+    record { rises = omega arith; within = next.0; word = ap is_word bytes ∙ longest.word }
 
 pub cut_words : (whole : List ℕ) (at : ℕ) (text : List ℕ) (spans : List Span) (stuck : Option ℕ)
   → at ≤ length whole → drop at whole ≡ text → IsCut at text spans stuck → All (IsWordOf whole) spans
@@ -75,11 +86,8 @@ cut_words whole at text spans stuck within is (blank _ c rest _ _ is_blank cut) 
 cut_words whole at text spans stuck within is (word _ _ n more _ longest cut) =
     let next : (at + n ≤ length whole) × (drop (at + n) whole ≡ drop n text) = further whole at text n within is longest.fits in
     let span : Span = record { start = at; end = at + n } in
-    let width : at + n - at ≡ n = omega arith in
-    let bytes : word_at whole span ≡ take n text = ap (λ k. take k (drop at whole)) width ∙ ap (λ l. take n l) is in
-    let moves : 0 < n = is_word_not_empty text n longest.word in
     All-cons (IsWordOf whole) span more
-      (record { rises = omega arith; within = next.0; word = ap is_word bytes ∙ longest.word })
+      (word_here whole at text n within is longest)
       (cut_words whole (at + n) (drop n text) more stuck next.0 next.1 cut)
 cut_words whole at text spans stuck within is (none _ c rest not_blank no_word) = All-nil (IsWordOf whole)
 
@@ -97,7 +105,7 @@ below_or_not zero (suc n) = inl (omega arith)
 below_or_not (suc m) (suc n) = elim (below_or_not m n) [ inl h ↦ inl (omega arith) | inr h ↦ inr (omega arith) ]
 
 -- the byte at a place
-first_at : (whole : List ℕ) (at c : ℕ) (rest : List ℕ) → drop at whole ≡ c ∷ rest → get_or whole at 0 ≡ c
+pub first_at : (whole : List ℕ) (at c : ℕ) (rest : List ℕ) → drop at whole ≡ c ∷ rest → get_or whole at 0 ≡ c
 first_at whole at c rest is =
     let here : at ≡ at + 0 = omega arith in
     ap (λ k. get_or whole k 0) here ∙ sym (get_or-drop at whole 0 0) ∙ ap (λ l. get_or l 0 0) is

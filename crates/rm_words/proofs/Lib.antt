@@ -5,3 +5,5 @@ pub mod CutLaws
 pub mod Joins
 pub mod Numbers
 pub mod Tokens
+pub mod Printing
+pub mod Characters

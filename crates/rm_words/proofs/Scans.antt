@@ -141,11 +141,11 @@ pub alone : (b : Bool) → b ≡ b || false || false
 alone true = refl
 alone false = refl
 
-alone' : (b : Bool) → b ≡ b || false || false || false
+pub alone' : (b : Bool) → b ≡ b || false || false || false
 alone' true = refl
 alone' false = refl
 
-alone'' : (b : Bool) → b ≡ b || false
+pub alone'' : (b : Bool) → b ≡ b || false
 alone'' true = refl
 alone'' false = refl
 

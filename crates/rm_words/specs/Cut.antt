@@ -1,8 +1,11 @@
 -- how a text is cut into words
-use Rattle.std.specs.Prelude.{◌≡◌, ◌≢◌, ℕ, ◌+◌, ◌-◌, ◌<◌, ◌≤◌, Option, Some, None, true, ◌⊎◌, List, [], ◌∷◌, length, take, drop, map, slice_index}
+use Rattle.std.specs.Prelude.{◌≡◌, ◌≢◌, ℕ, ◌+◌, ◌-◌, ◌<◌, ◌≤◌, Option, Some, None, true, ◌⊎◌, List, [], ◌∷◌, length, take, drop, map, slice_index, All}
 use Rattle.std.specs.List.{join_with_byte}
+use Rattle.std.specs.Str.{IsCharBoundary}
 use Rattle.rm_words.specs.declared.class.Class.TheVariants.{Blank}
 use Rattle.rm_words.specs.declared.spans.Span.{Span}
+use Rattle.rm_words.specs.declared.spans.WordsError.{WordsError}
+use Rattle.rm_words.specs.declared.spans.WordsError.TheVariants.{At, Memory}
 use Rattle.rm_words.specs.Class.{class_of}
 use Rattle.rm_words.specs.Word.{is_word, IsLongest, HasNoWord}
 
@@ -24,6 +27,11 @@ word_at text span = take (span.end - span.start) (drop span.start text)
 
 abbrev pub words_at : List ℕ → List Span → List (List ℕ)
 words_at text spans = map (word_at text) spans
+
+-- the cut of the text ends at the error's place; want of memory says nothing of the text
+abbrev pub Stops : List ℕ → WordsError → Type 0
+Stops text (At at) = (spans : List Span) × IsCut 0 text spans (Some at)
+Stops text Memory = Unit {0}
 
 -- the span lies in the text and is not empty, and its bytes are a word
 pub record IsWordOf (text : List ℕ) (span : Span) : Type 0 where
@@ -66,3 +74,9 @@ abbrev pub spans_from : ℕ → List (List ℕ) → List Span
 spans_from at [] = []
 spans_from at (w ∷ ws) =
     record { start = at; end = at + length w } ∷ spans_from (at + length w + 1) ws
+
+-- a character of the text begins where each span begins and behind its end, and where the cut ends
+pub record OnCharacters (text : List ℕ) (spans : List Span) (stuck : Option ℕ) : Type 0 where
+  pub starts : All (λ span. IsCharBoundary text span.start) spans
+  pub ends : All (λ span. IsCharBoundary text span.end) spans
+  pub stops : IsCharBoundary text (cut_end text stuck)

@@ -10,6 +10,7 @@ use Rattle.rm_words.specs.declared.token.Symbol.TheVariants.{AtMost, AtLeast, Un
 use Rattle.rm_words.specs.declared.token.Token.{Token as Told}
 use Rattle.rm_words.specs.declared.token.Token.TheVariants as told
 use Rattle.rm_words.specs.Class.{class_of}
+use Rattle.rm_words.specs.Word.{is_word}
 
 -- a bare word in lower case, the number that digits write, the bytes between the quotes with each
 -- two quotes as they stand, or a symbol
@@ -90,3 +91,33 @@ seen (told.Bare word) = Bare (folded word.now)
 seen (told.Number n) = Number n
 seen (told.Quoted text) = Quoted text.now
 seen (told.Sign symbol) = Sign symbol
+
+-- the token is this key word, in any case
+abbrev pub is_key : Token → List ℕ → Bool
+is_key (Bare word) key = bytes_eq word (folded key)
+is_key _ key = false
+
+-- a text as it stands between quotes
+abbrev pub doubled : List ℕ → List ℕ
+doubled [] = []
+doubled (c ∷ cs) = if c == 39 then 39 ∷ 39 ∷ doubled cs else c ∷ doubled cs
+
+-- the text that stands between quotes: of two quotes the second is left out. `half` says that the
+-- first of two stands just before
+abbrev pub undoubled_from : Bool → List ℕ → List ℕ
+undoubled_from half [] = []
+undoubled_from false (c ∷ cs) = c ∷ undoubled_from (c == 39) cs
+undoubled_from true (c ∷ cs) =
+    if c == 39 then undoubled_from false cs else c ∷ undoubled_from false cs
+
+abbrev pub undoubled : List ℕ → List ℕ
+undoubled text = undoubled_from false text
+
+-- the word that quotes a text
+abbrev pub quoted : List ℕ → List ℕ
+quoted text = 39 ∷ (doubled text ++ 39 ∷ [])
+
+-- the bytes are a word that says this
+pub record Says (bytes : List ℕ) (says : Token) : Type 0 where
+  pub word : is_word bytes ≡ true
+  pub token : token_of bytes ≡ says

@@ -1,11 +1,11 @@
-ghost use Rattle.std.specs.Prelude.{IfOk};
-ghost use Rattle.rm_words.specs.Cut.{IsCut};
+ghost use Rattle.std.specs.Prelude.{IfErr, IfOk, None};
+ghost use Rattle.rm_words.specs.Cut.{IsCut, Stops};
 
 use std::alloc::{AllocError, Global};
 
 use crate::class::class_of;
 use crate::scan::longest;
-use crate::spans::{Cut, Span, Words};
+use crate::spans::{Cut, Span, Words, WordsError};
 
 /// Cuts a text into its words, up to the first place without one.
 pub fn cut(alloc: Global, text: &[u8]) -> Result<Cut, AllocError>
@@ -33,4 +33,16 @@ pub fn cut(alloc: Global, text: &[u8]) -> Result<Cut, AllocError>
         words: Words::of(spans),
         stuck: None,
     })
+}
+
+/// Cuts a text into its words, where it has words from its first byte to its last.
+pub fn words(alloc: Global, text: &str) -> Result<Words, WordsError>
+    ensures ok { IfOk result (λ spans. IsCut 0 text.now spans None) }
+    ensures err { IfErr result (Stops text.now) }
+{
+    let Cut { words, stuck } = cut(alloc, text.as_bytes())?;
+    match stuck {
+        None => Ok(words),
+        Some(at) => Err(WordsError::At(at)),
+    }
 }

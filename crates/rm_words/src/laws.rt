@@ -1,10 +1,15 @@
 //! What holds of every cut, each law a function that does nothing.
 
-ghost use Rattle.std.specs.Prelude.{◌≡◌, ℕ, ◌≤◌, ◌<◌, ◌⊎◌, List, Option, Some, None, All, slice_index};
+ghost use Rattle.std.specs.Prelude.{◌≡◌, ℕ, ◌≤◌, ◌<◌, ◌⊎◌, List, Option, Some, None, All, map, slice_index, true, ◌^◌};
+ghost use Rattle.std.specs.Fmt.{decimal};
+ghost use Rattle.std.specs.Str.{IsUtf8};
 ghost use Rattle.rm_words.specs.declared.class.Class.TheVariants.{Blank};
 ghost use Rattle.rm_words.specs.declared.spans.Span.{Span};
 ghost use Rattle.rm_words.specs.Class.{class_of};
-ghost use Rattle.rm_words.specs.Cut.{AreWords, IsCut, IsIn, IsStuckAt, IsWordOf, Rise, cut_end, joined, spans_from, words_at};
+ghost use Rattle.rm_words.specs.declared.token.Symbol.{Symbol};
+ghost use Rattle.rm_words.specs.Cut.{AreWords, IsCut, IsIn, IsStuckAt, IsWordOf, OnCharacters, Rise, cut_end, joined, spans_from, words_at};
+ghost use Rattle.rm_words.specs.Token.{Bare, Number, Quoted, Says, Sign, doubled, folded, quoted, symbol_bytes, undoubled};
+ghost use Rattle.rm_words.specs.Word.{is_bare};
 
 /// A text has one cut.
 pub fn one_cut()
@@ -48,5 +53,42 @@ pub fn joined_cut()
     ensures { (ws : List (List ℕ)) → AreWords ws
         → IsCut 0 (joined ws) (spans_from 0 ws) None
             × (words_at (joined ws) (spans_from 0 ws) ≡ ws) }
+{
+}
+
+/// No cut parts the bytes of a character.
+pub fn cut_on_characters()
+    ensures { (text : List ℕ) (spans : List Span) (stuck : Option ℕ)
+        → IsUtf8 text → IsCut 0 text spans stuck → OnCharacters text spans stuck }
+{
+}
+
+/// A bare word says itself in lower case.
+pub fn bare_word()
+    ensures { (word : List ℕ) → is_bare (map class_of word) ≡ true → Says word (Bare (folded word)) }
+{
+}
+
+/// A number as it is printed says that number.
+pub fn number_word()
+    ensures { (n : ℕ) → n < 2 ^ 64 → Says (decimal n) (Number n) }
+{
+}
+
+/// A text between quotes says that text.
+pub fn quoted_word()
+    ensures { (text : List ℕ) → Says (quoted text) (Quoted (doubled text)) }
+{
+}
+
+/// What doubling the quotes of a text adds is taken away again.
+pub fn undoubled_doubled()
+    ensures { (text : List ℕ) → undoubled (doubled text) ≡ text }
+{
+}
+
+/// A symbol as it is written says itself.
+pub fn symbol_word()
+    ensures { (symbol : Symbol) → Says (symbol_bytes symbol) (Sign symbol) }
 {
 }

@@ -1,3 +1,4 @@
+use std::alloc::AllocError;
 use std::marker::Model;
 
 /// A part of a text: from a byte's place to the place behind the last.
@@ -43,4 +44,23 @@ impl Words {
 pub struct Cut {
     pub words: Words,
     pub stuck: Option<u64>,
+}
+
+/// Why a text is not cut into words from its first byte to its last.
+#[derive(Clone, Copy, Debug, PartialEq, Eq)]
+pub enum WordsError {
+    /// The first place where there is no word.
+    At(u64),
+    Memory,
+}
+
+impl From<AllocError> for WordsError {
+    ghost use Rattle.std.specs.Prelude.{◌≡◌};
+    ghost use Rattle.rm_words.specs.declared.spans.WordsError.TheVariants.{Memory};
+
+    ghost from_gives = { λ _ e. e ≡ Memory };
+
+    fn from(_error: AllocError) -> WordsError {
+        WordsError::Memory
+    }
 }

@@ -1,7 +1,7 @@
 ghost use Rattle.std.specs.Prelude.{◌≡◌, ◌^◌, ◌-◌, min};
 ghost use Rattle.std.specs.Str.Parse.{digits_value};
 ghost use Rattle.rm_words.specs.Cut.{IsWordOf, word_at};
-ghost use Rattle.rm_words.specs.Token.{AreDigits, capped, most, seen, symbol_bytes, symbol_of, token_of};
+ghost use Rattle.rm_words.specs.Token.{AreDigits, capped, is_key, most, seen, symbol_bytes, symbol_of, token_of};
 
 use crate::class::{class_of, Class};
 use crate::spans::Span;
@@ -75,6 +75,18 @@ impl Symbol {
             Symbol::Greater => ">",
             Symbol::Semicolon => ";",
             Symbol::Minus => "-",
+        }
+    }
+}
+
+impl Token<'_> {
+    /// Whether the token is this key word, in any case.
+    pub fn is_key(&self, key: &[u8]) -> bool
+        ensures { result ≡ is_key (seen self.now) key.now }
+    {
+        match self {
+            Token::Bare(word) => word.as_bytes().eq_ignore_ascii_case(key),
+            _ => false,
         }
     }
 }
