@@ -1,5 +1,5 @@
-ghost use Rattle.std.specs.Prelude.{IfErr, IfOk, None};
-ghost use Rattle.rm_words.specs.Cut.{IsCut, Stops};
+ghost use Rattle.std.specs.Prelude.{All, IfErr, IfOk, None};
+ghost use Rattle.rm_words.specs.Cut.{IsCut, IsWordOf, Stops};
 
 use std::alloc::{AllocError, Global};
 
@@ -9,7 +9,8 @@ use crate::spans::{Cut, Span, Words, WordsError};
 
 /// Cuts a text into its words, up to the first place without one.
 pub fn cut(alloc: Global, text: &[u8]) -> Result<Cut, AllocError>
-    ensures { IfOk result (λ c. IsCut 0 text.now c.words c.stuck) }
+    ensures cut { IfOk result (λ c. IsCut 0 text.now c.words c.stuck) }
+    ensures hold { IfOk result (λ c. All (IsWordOf text.now) c.words) }
 {
     let mut spans = Vec::new(alloc);
     let mut at = 0;
@@ -38,6 +39,7 @@ pub fn cut(alloc: Global, text: &[u8]) -> Result<Cut, AllocError>
 /// Cuts a text into its words, where it has words from its first byte to its last.
 pub fn words(alloc: Global, text: &str) -> Result<Words, WordsError>
     ensures ok { IfOk result (λ spans. IsCut 0 text.now spans None) }
+    ensures hold { IfOk result (λ spans. All (IsWordOf text.now) spans) }
     ensures err { IfErr result (Stops text.now) }
 {
     let Cut { words, stuck } = cut(alloc, text.as_bytes())?;

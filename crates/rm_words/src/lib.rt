@@ -11,3 +11,6 @@ pub mod laws;
 pub mod scan;
 pub mod spans;
 pub mod token;
+
+#[cfg(test)]
+mod tests;
