@@ -14,11 +14,11 @@ use Rattle.rm_words.proofs.Tokens.{start_boundary, end_boundary}
 
 -- where the next word or blank stands a character begins
 pub on_characters : (whole : List ℕ) (at : ℕ) (text : List ℕ) (spans : List Span) (stuck : Option ℕ)
-  → IsUtf8 whole → IsCharBoundary whole at → at ≤ length whole → drop at whole ≡ text → IsCut at text spans stuck → OnCharacters whole spans stuck
+    → IsUtf8 whole → IsCharBoundary whole at → at ≤ length whole → drop at whole ≡ text → IsCut at text spans stuck → OnCharacters whole spans stuck
 on_characters whole at text spans stuck utf8 bound within is (ends _) = record {
   starts = All-nil (λ span. IsCharBoundary whole span.start);
   ends = All-nil (λ span. IsCharBoundary whole span.end);
-  stops = IsCharBoundary-end whole
+  stops = IsCharBoundary-end whole;
 }
 on_characters whole at text spans stuck utf8 bound within is (blank _ c rest _ _ is_blank cut) =
     let next : (at + 1 ≤ length whole) × (drop (at + 1) whole ≡ rest) = further whole at (c ∷ rest) 1 within is (omega arith) in
@@ -34,10 +34,10 @@ on_characters whole at text spans stuck utf8 bound within is (word _ _ n more _ 
     record {
       starts = All-cons (λ s. IsCharBoundary whole s.start) span more bound rest.starts;
       ends = All-cons (λ s. IsCharBoundary whole s.end) span more behind rest.ends;
-      stops = rest.stops
+      stops = rest.stops;
     }
 on_characters whole at text spans stuck utf8 bound within is (none _ c rest not_blank no_word) = record {
   starts = All-nil (λ span. IsCharBoundary whole span.start);
   ends = All-nil (λ span. IsCharBoundary whole span.end);
-  stops = bound
+  stops = bound;
 }

@@ -52,7 +52,7 @@ pub class_tells : (byte : ℕ) (k : Class) → class_of byte ≡ k → Tells byt
 unfolding chain
 class_tells byte k is =
     subst (λ x. Tells byte x) is
-      (passed (is_letter byte) (is_ascii_digit byte) (byte == 39) (is_blank byte) (byte == 60) (byte == 62) (byte == 61) (is_mark byte))
+    (passed (is_letter byte) (is_ascii_digit byte) (byte == 39) (is_blank byte) (byte == 60) (byte == 62) (byte == 61) (is_mark byte))
 
 pub digit_range : (byte : ℕ) → class_of byte ≡ Digit → IsInRange 48 57 byte
 digit_range byte is = let told : is_ascii_digit byte ≡ true = class_tells byte Digit is in grind (arith, nat_tests)

@@ -38,20 +38,20 @@ longest_last : (w : List ℕ) → is_word w ≡ true → IsLongest w (length w)
 longest_last w h = record {
   fits = omega arith;
   word = ap is_word (take-length w) ∙ h;
-  longest = λ m above within. absurd (omega arith)
+  longest = λ m above within. absurd (omega arith);
 }
 
 longest_joined : (w rest : List ℕ) → is_word w ≡ true → IsLongest (w ++ 32 ∷ rest) (length w)
 longest_joined w rest h = record {
   fits = omega (arith, length-append w (32 ∷ rest));
   word = ap is_word (take-append_seam w (32 ∷ rest)) ∙ h;
-  longest = λ m above within. by w rest h m (m - length w - 1) (omega arith)
+  longest = λ m above within. by w rest h m (m - length w - 1) (omega arith);
 } where
   by : (w rest : List ℕ) → is_word w ≡ true → (m k : ℕ) → length w + suc k ≡ m → is_word (take m (w ++ 32 ∷ rest)) ≡ false
   by w rest h m k is =
-    ap (λ x. is_word (take x (w ++ 32 ∷ rest))) (sym is)
-    ∙ ap is_word (take-append-add w (32 ∷ rest) (suc k))
-    ∙ blank_behind w (take k rest) h
+      ap (λ x. is_word (take x (w ++ 32 ∷ rest))) (sym is)
+      ∙ ap is_word (take-append-add w (32 ∷ rest) (suc k))
+      ∙ blank_behind w (take k rest) h
 
 pub joined_is_cut : (at : ℕ) (ws : List (List ℕ)) → AreWords ws → IsCut at (joined ws) (spans_from at ws) None
 joined_is_cut at [] are = ends at
@@ -61,8 +61,8 @@ joined_is_cut at (w ∷ v ∷ ws) are =
     let rest : List ℕ = joined (v ∷ ws) in
     let spans : List Span = spans_from (at + length w + 1) (v ∷ ws) in
     word at (w ++ 32 ∷ rest) (length w) spans None (longest_joined w rest are.0)
-      (subst (λ l. IsCut (at + length w) l spans None) (sym (drop-append_seam w (32 ∷ rest)))
-        (blank (at + length w) 32 rest spans None refl (joined_is_cut (at + length w + 1) (v ∷ ws) are.1)))
+    (subst (λ l. IsCut (at + length w) l spans None) (sym (drop-append_seam w (32 ∷ rest)))
+    (blank (at + length w) 32 rest spans None refl (joined_is_cut (at + length w + 1) (v ∷ ws) are.1)))
 
 -- the bytes at a word's place
 placed : (whole : List ℕ) (at : ℕ) (w : List ℕ) → word_at whole (record { start = at; end = at + length w }) ≡ take (length w) (drop at whole)
@@ -75,10 +75,10 @@ joined_words whole at (w ∷ []) is =
 joined_words whole at (w ∷ v ∷ ws) is =
     let rest : List ℕ = joined (v ∷ ws) in
     let here : word_at whole (record { start = at; end = at + length w }) ≡ w =
-      placed whole at w ∙ ap (λ l. take (length w) l) is ∙ take-append_seam w (32 ∷ rest) in
+    placed whole at w ∙ ap (λ l. take (length w) l) is ∙ take-append_seam w (32 ∷ rest) in
     let behind : at + (length w + 1) ≡ at + length w + 1 = omega arith in
     let next : drop (at + length w + 1) whole ≡ rest =
-      ap (λ k. drop k whole) (sym behind) ∙ sym (drop_drop at (length w + 1) whole) ∙ ap (λ l. drop (length w + 1) l) is
-      ∙ drop-append-add w (32 ∷ rest) 1 in
+    ap (λ k. drop k whole) (sym behind) ∙ sym (drop_drop at (length w + 1) whole) ∙ ap (λ l. drop (length w + 1) l) is
+    ∙ drop-append-add w (32 ∷ rest) 1 in
     ap (λ x. x ∷ words_at whole (spans_from (at + length w + 1) (v ∷ ws))) here
     ∙ ap (λ xs. w ∷ xs) (joined_words whole (at + length w + 1) (v ∷ ws) next)

@@ -7,3 +7,5 @@ pub mod Numbers
 pub mod Tokens
 pub mod Printing
 pub mod Characters
+pub mod Written
+pub mod Undoubling

@@ -37,7 +37,7 @@ symbol_says symbol.Minus = record { word = refl; token = refl }
 bare_by : (c : ℕ) (cs : List ℕ) (k : Class) → class_of c ≡ k → is_bare (k ∷ map class_of cs) ≡ true → Says (c ∷ cs) (Bare (folded (c ∷ cs)))
 bare_by c cs class.Letter is h = record {
   word = ap (λ k. are_word (k ∷ map class_of cs)) is ∙ sym (alone' (list_all goes_on (map class_of cs))) ∙ h;
-  token = ap (λ k. token_by k (c ∷ cs)) is
+  token = ap (λ k. token_by k (c ∷ cs)) is;
 }
 bare_by c cs class.Digit is h = absurd cc
 bare_by c cs class.Quote is h = absurd cc
@@ -69,7 +69,7 @@ numeral_says (c ∷ cs) h =
     let is : class_of c ≡ class.Digit = range_digit c (digit_small c h.1.0) in
     record {
       word = ap (λ k. are_word (k ∷ map class_of cs)) is ∙ sym (alone (list_all is_digit (map class_of cs))) ∙ digits_all cs h.1.1;
-      token = ap (λ k. token_by k (c ∷ cs)) is
+      token = ap (λ k. token_by k (c ∷ cs)) is;
     }
 
 pub number_says : (n : ℕ) → n < 2 ^ 64 → Says (decimal n) (Number n)
@@ -91,7 +91,7 @@ quote_by c class.Mark is h = refl
 quote_by c class.Other is h = refl
 
 ends_quoted_by : (c : ℕ) (more : List ℕ) (b : Bool) → (c == 39) ≡ b → closes false (map class_of (more ++ 39 ∷ [])) ≡ true
-  → closes false (map class_of ((if b then 39 ∷ 39 ∷ more else c ∷ more) ++ 39 ∷ [])) ≡ true
+    → closes false (map class_of ((if b then 39 ∷ 39 ∷ more else c ∷ more) ++ 39 ∷ [])) ≡ true
 ends_quoted_by c more true is h = h
 ends_quoted_by c more false is h =
     ap (λ b. closes b (map class_of (more ++ 39 ∷ []))) (quote_by c (class_of c) refl is) ∙ h
@@ -107,11 +107,11 @@ quoted_says text =
     let less : suc (length rest) - 2 ≡ length (doubled text) = omega arith in
     record {
       word = sym (alone'' (closes false (map class_of rest))) ∙ ends_quoted text;
-      token = ap (λ l. Quoted l) (ap (λ k. take k rest) less ∙ take-append_seam (doubled text) (39 ∷ []))
+      token = ap (λ l. Quoted l) (ap (λ k. take k rest) less ∙ take-append_seam (doubled text) (39 ∷ []));
     }
 
 undoubled_by : (c : ℕ) (more cs : List ℕ) (b : Bool) → (c == 39) ≡ b → undoubled more ≡ cs
-  → undoubled (if b then 39 ∷ 39 ∷ more else c ∷ more) ≡ c ∷ cs
+    → undoubled (if b then 39 ∷ 39 ∷ more else c ∷ more) ≡ c ∷ cs
 undoubled_by c more cs true is h =
     let same : 39 ≡ c = grind (arith, nat_tests) in ap (λ x. x ∷ undoubled more) same ∙ ap (λ l. c ∷ l) h
 undoubled_by c more cs false is h = ap (λ b. c ∷ undoubled_from b more) is ∙ ap (λ l. c ∷ l) h

@@ -33,7 +33,7 @@ dead_longest n best [] = refl
 dead_longest n best (c ∷ cs) = dead_longest (n + 1) best cs
 
 dead_turn : (t : Scan) (n : ℕ) (best : Option ℕ) (cs : List ℕ) → is_dead t ≡ true
-  → longest_from t (n + 1) (if accepts t then Some (n + 1) else best) cs ≡ best
+    → longest_from t (n + 1) (if accepts t then Some (n + 1) else best) cs ≡ best
 dead_turn scan.Dead n best cs e = dead_longest (n + 1) best cs
 dead_turn scan.Start n best cs e = cc
 dead_turn scan.Bare n best cs e = cc
@@ -46,7 +46,7 @@ dead_turn scan.Whole n best cs e = cc
 
 -- where the scan dies the longest word is the one that it has
 pub dead_found : (s : Scan) (i : ℕ) (best : Option ℕ) (text : List ℕ) (c : ℕ) → i < length text → c ≡ get_or text i 0
-  → is_dead (step s (class_of c)) ≡ true → longest_from s i best (drop i text) ≡ best
+    → is_dead (step s (class_of c)) ≡ true → longest_from s i best (drop i text) ≡ best
 dead_found s i best text c h is e =
     at_drop_more (longest_from s i best) text i 0 h
     ∙ ap (λ x. longest_from s i best (x ∷ drop (i + 1) text)) (sym is)
@@ -173,39 +173,39 @@ reads_word m text = word_runs (map class_of (take m text))
 -- what the scan finds from here on: the longest front that it accepts, or else what it had
 data Finds (s : Scan) (n : ℕ) (best : Option ℕ) (text : List ℕ) (found : Option ℕ) : Type 0 where
   later : (k : ℕ) → found ≡ Some (n + suc k) → suc k ≤ length text → reads s (suc k) text ≡ true
-    → ((m : ℕ) → suc k < m → m ≤ length text → reads s m text ≡ false) → Finds s n best text found
+      → ((m : ℕ) → suc k < m → m ≤ length text → reads s m text ≡ false) → Finds s n best text found
   kept : found ≡ best → ((m : ℕ) → 0 < m → m ≤ length text → reads s m text ≡ false) → Finds s n best text found
 
 finds_more : (s : Scan) (n : ℕ) (best : Option ℕ) (c : ℕ) (cs : List ℕ) (b : Bool) (found : Option ℕ)
-  → accepts (step s (class_of c)) ≡ b
-  → Finds (step s (class_of c)) (n + 1) (if b then Some (n + 1) else best) cs found
-  → Finds s n best (c ∷ cs) found
+    → accepts (step s (class_of c)) ≡ b
+    → Finds (step s (class_of c)) (n + 1) (if b then Some (n + 1) else best) cs found
+    → Finds s n best (c ∷ cs) found
 finds_more s n best c cs b found e (later k is fits word rest) =
     let more : n + 1 + suc k ≡ n + suc (suc k) = omega arith in
     later (suc k) (is ∙ ap (λ x. Some x) more) (omega arith) word (after s c cs k rest)
   where
-  after : (s : Scan) (c : ℕ) (cs : List ℕ) (k : ℕ)
-    → ((m : ℕ) → suc k < m → m ≤ length cs → reads (step s (class_of c)) m cs ≡ false)
-    → (m : ℕ) → suc (suc k) < m → m ≤ length (c ∷ cs) → reads s m (c ∷ cs) ≡ false
-  after s c cs k rest zero above within = absurd (omega arith)
-  after s c cs k rest (suc m) above within = rest m (omega arith) (omega arith)
+    after : (s : Scan) (c : ℕ) (cs : List ℕ) (k : ℕ)
+        → ((m : ℕ) → suc k < m → m ≤ length cs → reads (step s (class_of c)) m cs ≡ false)
+        → (m : ℕ) → suc (suc k) < m → m ≤ length (c ∷ cs) → reads s m (c ∷ cs) ≡ false
+    after s c cs k rest zero above within = absurd (omega arith)
+    after s c cs k rest (suc m) above within = rest m (omega arith) (omega arith)
 finds_more s n best c cs true found e (kept is rest) =
     later 0 is (omega arith) e (after s c cs rest)
   where
-  after : (s : Scan) (c : ℕ) (cs : List ℕ)
-    → ((m : ℕ) → 0 < m → m ≤ length cs → reads (step s (class_of c)) m cs ≡ false)
-    → (m : ℕ) → 1 < m → m ≤ length (c ∷ cs) → reads s m (c ∷ cs) ≡ false
-  after s c cs rest zero above within = absurd (omega arith)
-  after s c cs rest (suc m) above within = rest m (omega arith) (omega arith)
+    after : (s : Scan) (c : ℕ) (cs : List ℕ)
+        → ((m : ℕ) → 0 < m → m ≤ length cs → reads (step s (class_of c)) m cs ≡ false)
+        → (m : ℕ) → 1 < m → m ≤ length (c ∷ cs) → reads s m (c ∷ cs) ≡ false
+    after s c cs rest zero above within = absurd (omega arith)
+    after s c cs rest (suc m) above within = rest m (omega arith) (omega arith)
 finds_more s n best c cs false found e (kept is rest) = kept is (after s c cs e rest)
   where
-  after : (s : Scan) (c : ℕ) (cs : List ℕ)
-    → accepts (step s (class_of c)) ≡ false
-    → ((m : ℕ) → 0 < m → m ≤ length cs → reads (step s (class_of c)) m cs ≡ false)
-    → (m : ℕ) → 0 < m → m ≤ length (c ∷ cs) → reads s m (c ∷ cs) ≡ false
-  after s c cs e rest zero above within = absurd (omega arith)
-  after s c cs e rest (suc zero) above within = e
-  after s c cs e rest (suc (suc m)) above within = rest (suc m) (omega arith) (omega arith)
+    after : (s : Scan) (c : ℕ) (cs : List ℕ)
+        → accepts (step s (class_of c)) ≡ false
+        → ((m : ℕ) → 0 < m → m ≤ length cs → reads (step s (class_of c)) m cs ≡ false)
+        → (m : ℕ) → 0 < m → m ≤ length (c ∷ cs) → reads s m (c ∷ cs) ≡ false
+    after s c cs e rest zero above within = absurd (omega arith)
+    after s c cs e rest (suc zero) above within = e
+    after s c cs e rest (suc (suc m)) above within = rest (suc m) (omega arith) (omega arith)
 
 finds : (s : Scan) (n : ℕ) (best : Option ℕ) (text : List ℕ) → Finds s n best text (longest_from s n best text)
 finds s n best [] = kept refl (λ m above within. absurd (omega arith))
@@ -222,7 +222,7 @@ found_longest text n found is (later k more fits word rest) =
     subst (λ x. IsLongest text x) same (record {
       fits = fits;
       word = sym (reads_word (suc k) text) ∙ word;
-      longest = λ m above within. sym (reads_word m text) ∙ rest m above within
+      longest = λ m above within. sym (reads_word m text) ∙ rest m above within;
     })
 found_longest text n found is (kept none rest) = let no_found : None ≡ Some n = sym none ∙ is in absurd cc
 
@@ -230,9 +230,9 @@ none_found : (text : List ℕ) (found : Option ℕ) → found ≡ None → Finds
 none_found text found is (later k more fits word rest) = let some_found : None ≡ Some (0 + suc k) = sym is ∙ more in absurd cc
 none_found text found is (kept none rest) = by text rest
   where
-  by : (text : List ℕ) → ((m : ℕ) → 0 < m → m ≤ length text → reads scan.Start m text ≡ false) → HasNoWord text
-  by text rest zero within = refl
-  by text rest (suc m) within = sym (reads_word (suc m) text) ∙ rest (suc m) (omega arith) within
+    by : (text : List ℕ) → ((m : ℕ) → 0 < m → m ≤ length text → reads scan.Start m text ≡ false) → HasNoWord text
+    by text rest zero within = refl
+    by text rest (suc m) within = sym (reads_word (suc m) text) ∙ rest (suc m) (omega arith) within
 
 -- what the scan of a whole text finds
 pub longest_word : (text : List ℕ) (found : Option ℕ) → longest text ≡ found → IfSome found (IsLongest text)

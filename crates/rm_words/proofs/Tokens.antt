@@ -43,16 +43,16 @@ last_known : (front : List ℕ) (c : ℕ) → is_word (front ++ c ∷ []) ≡ tr
 last_known front c h = λ e.
     let ks = map class_of front in
     let run : accepts (step (runs scan.Start ks) (class_of c)) ≡ true =
-      ap accepts (sym (runs-append scan.Start ks (class_of c ∷ [])))
-      ∙ word_runs (ks ++ class_of c ∷ [])
-      ∙ ap are_word (sym (map-append class_of front (c ∷ [])))
-      ∙ h in
+    ap accepts (sym (runs-append scan.Start ks (class_of c ∷ [])))
+    ∙ word_runs (ks ++ class_of c ∷ [])
+    ∙ ap are_word (sym (map-append class_of front (c ∷ [])))
+    ∙ h in
     not_both (accepts (step (runs scan.Start ks) (class_of c))) run
-      (ap (λ k. accepts (step (runs scan.Start ks) k)) e ∙ step_other (runs scan.Start ks))
+    (ap (λ k. accepts (step (runs scan.Start ks) k)) e ∙ step_other (runs scan.Start ks))
 
 -- a word by its first byte, and how many stand behind it
 word_cons : (text : List ℕ) (span : Span) (n : ℕ) → span.start < length text → span.start + suc n ≡ span.end
-  → word_at text span ≡ get_or text span.start 0 ∷ take n (drop (span.start + 1) text)
+    → word_at text span ≡ get_or text span.start 0 ∷ take n (drop (span.start + 1) text)
 word_cons text span n within is =
     let width : span.end - span.start ≡ suc n = omega arith in
     let here : drop span.start text ≡ get_or text span.start 0 ∷ drop (span.start + 1) text = rw (add-one, drop-cons text span.start 0) in
@@ -60,7 +60,7 @@ word_cons text span n within is =
 
 -- and by its last
 word_snoc : (text : List ℕ) (span : Span) (n : ℕ) → span.end ≤ length text → span.start + suc n ≡ span.end
-  → word_at text span ≡ take n (drop span.start text) ++ get_or text (span.end - 1) 0 ∷ []
+    → word_at text span ≡ take n (drop span.start text) ++ get_or text (span.end - 1) 0 ∷ []
 word_snoc text span n within is =
     let width : span.end - span.start ≡ suc n = omega arith in
     let place : span.start + n ≡ span.end - 1 = omega arith in
@@ -68,7 +68,7 @@ word_snoc text span n within is =
     ap (λ k. take k (drop span.start text)) width
     ∙ take-suc (drop span.start text) n 0 fits
     ∙ ap (λ x. take n (drop span.start text) ++ x ∷ [])
-        (get_or-drop span.start text n 0 ∙ ap (λ k. get_or text k 0) place)
+    (get_or-drop span.start text n 0 ∙ ap (λ k. get_or text k 0) place)
 
 width_of : (span : Span) → span.start < span.end → (n : ℕ) × (span.start + suc n ≡ span.end)
 width_of span h = (span.end - span.start - 1, omega arith)
@@ -79,14 +79,14 @@ first_byte text span is =
     ap (λ w. get_or w 0 0) (word_cons text span width.0 (omega (arith, is.rises, is.within)) width.1)
 
 pub first_class : (text : List ℕ) (span : Span) (k : Class) → IsWordOf text span → class_of (get_or text span.start 0) ≡ k
-  → class_of (get_or (word_at text span) 0 0) ≡ k
+    → class_of (get_or (word_at text span) 0 0) ≡ k
 first_class text span k is here = ap class_of (first_byte text span is) ∙ here
 
 -- a word may be cut off before its first byte and behind its last
 pub start_boundary : (text : List ℕ) (span : Span) → IsWordOf text span → IsCharBoundary text span.start
 start_boundary text span is =
     let known : class_of (get_or text span.start 0) ≢ class.Other =
-      λ e. first_known (word_at text span) is.word (first_class text span class.Other is e) in
+    λ e. first_known (word_at text span) is.word (first_class text span class.Other is e) in
     IsCharBoundary-before_ascii text span.start (omega (arith, is.rises, is.within)) (known_ascii (get_or text span.start 0) known)
 
 last_ascii : (text : List ℕ) (span : Span) → IsWordOf text span → get_or text (span.end - 1) 0 < 128
@@ -100,13 +100,13 @@ pub end_boundary : (text : List ℕ) (span : Span) → IsUtf8 text → IsWordOf 
 end_boundary text span utf8 is =
     let behind : span.end - 1 + 1 ≡ span.end = omega (arith, is.rises) in
     subst (λ k. IsCharBoundary text k) behind
-      (IsCharBoundary-after_ascii text (span.end - 1) utf8 (omega (arith, is.rises, is.within)) (last_ascii text span is))
+    (IsCharBoundary-after_ascii text (span.end - 1) utf8 (omega (arith, is.rises, is.within)) (last_ascii text span is))
 
 -- and within its quotes
 pub inner_start_boundary : (text : List ℕ) (span : Span) → IsUtf8 text → IsWordOf text span → IsCharBoundary text (span.start + 1)
 inner_start_boundary text span utf8 is =
     let known : class_of (get_or text span.start 0) ≢ class.Other =
-      λ e. first_known (word_at text span) is.word (first_class text span class.Other is e) in
+    λ e. first_known (word_at text span) is.word (first_class text span class.Other is e) in
     IsCharBoundary-after_ascii text span.start utf8 (omega (arith, is.rises, is.within)) (known_ascii (get_or text span.start 0) known)
 
 pub inner_end_boundary : (text : List ℕ) (span : Span) → IsWordOf text span → IsCharBoundary text (span.end - 1)
@@ -117,16 +117,16 @@ quote_alone : (w : List ℕ) (c : ℕ) → w ≡ c ∷ [] → class_of c ≡ cla
 quote_alone w c is quote = ap is_word is ∙ ap (λ k. are_word (k ∷ [])) quote
 
 pub quotes_apart : (text : List ℕ) (span : Span) → IsWordOf text span → class_of (get_or text span.start 0) ≡ class.Quote
-  → span.start + 1 < span.end
+    → span.start + 1 < span.end
 quotes_apart text span is quote =
     let width : (n : ℕ) × (span.start + suc n ≡ span.end) = width_of span is.rises in
     let within : span.start < length text = omega (arith, is.rises, is.within) in
     by width.0 (word_cons text span width.0 within width.1) width.1
   where
-  by : (n : ℕ) → word_at text span ≡ get_or text span.start 0 ∷ take n (drop (span.start + 1) text) → span.start + suc n ≡ span.end → span.start + 1 < span.end
-  by zero cons end =
-      absurd (not_both (is_word (word_at text span)) is.word (quote_alone (word_at text span) (get_or text span.start 0) cons quote))
-  by (suc n) cons end = omega arith
+    by : (n : ℕ) → word_at text span ≡ get_or text span.start 0 ∷ take n (drop (span.start + 1) text) → span.start + suc n ≡ span.end → span.start + 1 < span.end
+    by zero cons end =
+        absurd (not_both (is_word (word_at text span)) is.word (quote_alone (word_at text span) (get_or text span.start 0) cons quote))
+    by (suc n) cons end = omega arith
 
 digit_is : (k : Class) → is_digit k ≡ true → k ≡ class.Digit
 digit_is class.Digit h = refl
@@ -143,7 +143,7 @@ all_digits : (cs : List ℕ) → list_all is_digit (map class_of cs) ≡ true �
 all_digits [] h = tt
 all_digits (c ∷ cs) h =
     let both : (is_digit (class_of c) ≡ true) × (list_all is_digit (map class_of cs) ≡ true) =
-      and_true (is_digit (class_of c)) (list_all is_digit (map class_of cs)) h in
+    and_true (is_digit (class_of c)) (list_all is_digit (map class_of cs)) h in
     (digit_is (class_of c) both.0, all_digits cs both.1)
 
 pub digit_word : (w : List ℕ) → is_word w ≡ true → class_of (get_or w 0 0) ≡ class.Digit → AreDigits w
@@ -171,7 +171,7 @@ take_within (suc m) (suc n) (x ∷ xs) h = ap (λ l. x ∷ l) (take_within m n x
 
 -- what stands between the quotes
 pub inner_at : (text : List ℕ) (span : Span) → IsWordOf text span
-  → inner (word_at text span) ≡ take (span.end - 1 - (span.start + 1)) (drop (span.start + 1) text)
+    → inner (word_at text span) ≡ take (span.end - 1 - (span.start + 1)) (drop (span.start + 1) text)
 inner_at text span is =
     let width : (n : ℕ) × (span.start + suc n ≡ span.end) = width_of span is.rises in
     let within : span.start < length text = omega (arith, is.rises, is.within) in

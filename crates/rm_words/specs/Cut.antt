@@ -14,12 +14,12 @@ use Rattle.rm_words.specs.Word.{is_word, IsLongest, HasNoWord}
 pub data IsCut : ℕ → List ℕ → List Span → Option ℕ → Type 0 where
   ends : (at : ℕ) → IsCut at [] [] None
   blank : (at : ℕ) (c : ℕ) (rest : List ℕ) (spans : List Span) (stuck : Option ℕ)
-    → class_of c ≡ Blank → IsCut (at + 1) rest spans stuck → IsCut at (c ∷ rest) spans stuck
+      → class_of c ≡ Blank → IsCut (at + 1) rest spans stuck → IsCut at (c ∷ rest) spans stuck
   word : (at : ℕ) (text : List ℕ) (n : ℕ) (spans : List Span) (stuck : Option ℕ)
-    → IsLongest text n → IsCut (at + n) (drop n text) spans stuck
-    → IsCut at text (record { start = at; end = at + n } ∷ spans) stuck
+      → IsLongest text n → IsCut (at + n) (drop n text) spans stuck
+      → IsCut at text (record { start = at; end = at + n } ∷ spans) stuck
   none : (at : ℕ) (c : ℕ) (rest : List ℕ)
-    → class_of c ≢ Blank → HasNoWord (c ∷ rest) → IsCut at (c ∷ rest) [] (Some at)
+      → class_of c ≢ Blank → HasNoWord (c ∷ rest) → IsCut at (c ∷ rest) [] (Some at)
 
 -- the bytes of a text from a span's start to its end
 abbrev pub word_at : List ℕ → Span → List ℕ

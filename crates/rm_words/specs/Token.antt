@@ -10,7 +10,7 @@ use Rattle.rm_words.specs.declared.token.Symbol.TheVariants.{AtMost, AtLeast, Un
 use Rattle.rm_words.specs.declared.token.Token.{Token as Told}
 use Rattle.rm_words.specs.declared.token.Token.TheVariants as told
 use Rattle.rm_words.specs.Class.{class_of}
-use Rattle.rm_words.specs.Word.{is_word}
+use Rattle.rm_words.specs.Word.{is_bare, is_word}
 
 -- a bare word in lower case, the number that digits write, the bytes between the quotes with each
 -- two quotes as they stand, or a symbol
@@ -91,6 +91,13 @@ seen (told.Bare word) = Bare (folded word.now)
 seen (told.Number n) = Number n
 seen (told.Quoted text) = Quoted text.now
 seen (told.Sign symbol) = Sign symbol
+
+-- the bytes write the token
+abbrev pub IsWritten : Token → List ℕ → Type 0
+IsWritten (Bare word) bytes = (is_bare (map class_of bytes) ≡ true) × (word ≡ folded bytes)
+IsWritten (Number n) bytes = AreDigits bytes × (n ≡ digits_value 10 bytes)
+IsWritten (Quoted text) bytes = bytes ≡ 39 ∷ (text ++ 39 ∷ [])
+IsWritten (Sign symbol) bytes = bytes ≡ symbol_bytes symbol
 
 -- the token is this key word, in any case
 abbrev pub is_key : Token → List ℕ → Bool

@@ -19,7 +19,7 @@ pub enum Class {
 }
 
 impl Class {
-    pub fn is_blank(self) -> bool
+    pub(crate) fn is_blank(self) -> bool
         ensures { IsTrue result ↔ (self ≡ Class.Blank) }
     {
         matches!(self, Class::Blank)
@@ -32,7 +32,7 @@ fn is_mark(byte: u8) -> bool
     matches!(byte, b'(' | b')' | b',' | b'.' | b'*' | b';' | b'-')
 }
 
-pub fn class_of(byte: u8) -> Class
+pub(crate) fn class_of(byte: u8) -> Class
     ensures { result ≡ class_of byte }
 {
     if byte.is_ascii_alphabetic() || byte == b'_' {

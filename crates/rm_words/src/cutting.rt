@@ -1,11 +1,10 @@
 ghost use Rattle.std.specs.Prelude.{All, IfErr, IfOk, None};
 ghost use Rattle.rm_words.specs.Cut.{IsCut, IsWordOf, Stops};
 
-use std::alloc::{AllocError, Global};
-
 use crate::class::class_of;
 use crate::scan::longest;
 use crate::spans::{Cut, Span, Words, WordsError};
+use std::alloc::{AllocError, Global};
 
 /// Cuts a text into its words, up to the first place without one.
 pub fn cut(alloc: Global, text: &[u8]) -> Result<Cut, AllocError>

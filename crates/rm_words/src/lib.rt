@@ -5,12 +5,11 @@
 //! `'`, with `''` for one `'` within), or one of the symbols `<= >= <> ( ) , . * = < > ; -`.
 #![tactic(auto)]
 
-pub mod class;
+mod class;
 pub mod cutting;
 pub mod laws;
-pub mod scan;
+mod scan;
 pub mod spans;
-pub mod token;
-
 #[cfg(test)]
 mod tests;
+pub mod token;

@@ -2,7 +2,7 @@ ghost use Rattle.std.specs.Prelude.{◌≡◌, ◌<◌, IfSome, IfNone};
 ghost use Rattle.rm_words.specs.Word.{IsLongest, HasNoWord};
 ghost use Rattle.rm_words.specs.Scan.{accepts, begun, is_dead, step};
 
-use crate::class::{class_of, Class};
+use crate::class::{Class, class_of};
 
 /// What the bytes of a word so far may become.
 #[derive(Clone, Copy, Debug, PartialEq, Eq)]
@@ -37,7 +37,7 @@ impl Scan {
         }
     }
 
-    pub fn step(self, class: Class) -> Scan
+    fn step(self, class: Class) -> Scan
         ensures { result ≡ step self class }
     {
         match (self, class) {
@@ -53,7 +53,7 @@ impl Scan {
         }
     }
 
-    pub fn accepts(self) -> bool
+    fn accepts(self) -> bool
         ensures { result ≡ accepts self }
     {
         match self {
@@ -71,7 +71,7 @@ impl Scan {
 }
 
 /// How many bytes the longest word has with which the text begins. Reads no further than that takes.
-pub fn longest(text: &[u8]) -> Option<usize>
+pub(crate) fn longest(text: &[u8]) -> Option<usize>
     ensures word { IfSome result (IsLongest text.now) }
     ensures none { IfNone result (HasNoWord text.now) }
     ensures moves { IfSome result (λ n. 0 < n) }

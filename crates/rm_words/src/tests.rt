@@ -1,7 +1,6 @@
 use crate::cutting::{cut, words};
 use crate::spans::{Span, WordsError};
-use crate::token::token_at;
-
+use crate::token::{Symbol, token_at, undoubled};
 use std::process::Abort;
 use std::test::Fail;
 
@@ -21,14 +20,26 @@ fn cuts_texts(rt: HostRuntime) -> Result<(), Fail> {
     let cases: [Case; 22] = [
         ("", &[], None),
         (" \t\r\n", &[], None),
-        ("CREATE RESOURCE POOL a1", &[(0, 6), (7, 15), (16, 20), (21, 23)], None),
+        (
+            "CREATE RESOURCE POOL a1",
+            &[(0, 6), (7, 15), (16, 20), (21, 23)],
+            None,
+        ),
         ("\tx\r\n y ", &[(1, 2), (5, 6)], None),
-        ("a<=b>=c<>d", &[(0, 1), (1, 3), (3, 4), (4, 6), (6, 7), (7, 9), (9, 10)], None),
+        (
+            "a<=b>=c<>d",
+            &[(0, 1), (1, 3), (3, 4), (4, 6), (6, 7), (7, 9), (9, 10)],
+            None,
+        ),
         (">==", &[(0, 2), (2, 3)], None),
         ("<>>", &[(0, 2), (2, 3)], None),
         ("<<=", &[(0, 1), (1, 3)], None),
         ("=>", &[(0, 1), (1, 2)], None),
-        ("(),.*;-", &[(0, 1), (1, 2), (2, 3), (3, 4), (4, 5), (5, 6), (6, 7)], None),
+        (
+            "(),.*;-",
+            &[(0, 1), (1, 2), (2, 3), (3, 4), (4, 5), (5, 6), (6, 7)],
+            None,
+        ),
         ("12ab_3 _x9", &[(0, 2), (2, 6), (7, 10)], None),
         ("10 -5", &[(0, 2), (3, 4), (4, 5)], None),
         ("'it''s' 'a b'", &[(0, 7), (8, 13)], None),
@@ -64,7 +75,8 @@ fn tells_where_words_end(rt: HostRuntime) -> Result<(), Fail> {
 
 #[test]
 fn tells_tokens(rt: HostRuntime) -> Result<(), Fail> {
-    let text = "Select 007 18446744073709551615 18446744073709551616 'it''s' '' <= >= <> ( ) , . * = < > ; -";
+    let text =
+        "Select 007 18446744073709551615 18446744073709551616 'it''s' '' <= >= <> ( ) , . * = < > ; -";
     let want = [
         "Bare(\"Select\")",
         "Number(7)",
@@ -94,6 +106,22 @@ fn tells_tokens(rt: HostRuntime) -> Result<(), Fail> {
         assert_eq!(rt; told.as_str(), line);
         assert_eq!(rt; token.is_key(b"SELECT"), line == "Bare(\"Select\")");
     }
+    Ok(())
+}
+
+#[test]
+fn undoubles_quotes(rt: HostRuntime) -> Result<(), Fail> {
+    for (text, want) in [
+        ("", ""),
+        ("it''s", "it's"),
+        ("''''a''", "''a'"),
+        ("é''§", "é'§"),
+    ] {
+        let plain = undoubled(rt.alloc(), text)?;
+        assert_eq!(rt; plain.as_str(), want);
+    }
+    assert_eq!(rt; Symbol::AtMost.text(), "<=");
+    assert_eq!(rt; Symbol::Minus.text(), "-");
     Ok(())
 }
 

@@ -1,10 +1,12 @@
-ghost use Rattle.std.specs.Prelude.{◌≡◌, ◌^◌, ◌-◌, min};
+ghost use Rattle.std.specs.Prelude.{◌≡◌, IfOk, min};
+ghost use Rattle.std.specs.String.{string_bytes};
 ghost use Rattle.std.specs.Str.Parse.{digits_value};
 ghost use Rattle.rm_words.specs.Cut.{IsWordOf, word_at};
-ghost use Rattle.rm_words.specs.Token.{AreDigits, capped, is_key, most, seen, symbol_bytes, symbol_of, token_of};
+ghost use Rattle.rm_words.specs.Token.{AreDigits, capped, is_key, most, seen, symbol_bytes, symbol_of, token_of, undoubled};
 
-use crate::class::{class_of, Class};
+use crate::class::{Class, class_of};
 use crate::spans::Span;
+use std::alloc::{AllocError, Global};
 
 /// A symbol of the statements' grammars.
 #[derive(Clone, Copy, Debug, PartialEq, Eq)]
@@ -118,4 +120,21 @@ pub fn token_at<'a>(text: &'a str, span: Span) -> Token<'a>
         Class::Quote => Token::Quoted(&text[start + 1..end - 1]),
         _ => Token::Sign(Symbol::of(word)),
     }
+}
+
+/// The text that a quoted word holds, with one `'` for each `''`.
+pub fn undoubled(alloc: Global, text: &str) -> Result<String, AllocError>
+    ensures { IfOk result (λ plain. string_bytes plain ≡ undoubled text.now) }
+{
+    let mut plain = String::new(alloc);
+    let mut half = false;
+    for c in text.chars() {
+        if half && c == '\'' {
+            half = false;
+        } else {
+            plain.push(c)?;
+            half = c == '\'';
+        }
+    }
+    Ok(plain)
 }

@@ -19,13 +19,13 @@ pub loop-at-preserved : goal.loop-at-preserved
 loop-at-preserved c =
     let text = c.args.text.now in
     let longest : IsLongest (drop c.loop-at.at text) c.in-Some.count =
-      subst (λ l. IsLongest l c.in-Some.count) (take_rest text c.loop-at.at) c.in-Some.ensures.word in
+    subst (λ l. IsLongest l c.in-Some.count) (take_rest text c.loop-at.at) c.in-Some.ensures.word in
     subst (λ l. Continues text (c.loop-at.at + c.in-Some.count) l) (sym c.in_ok-push.ensures.items)
-      (Continues-word text c.loop-at.at c.loop-at.spans.items c.in-Some.count longest c.loop-at.invariant)
+    (Continues-word text c.loop-at.at c.loop-at.spans.items c.in-Some.count longest c.loop-at.invariant)
 
 -- a cut says that its spans hold words
 both : (text : List ℕ) (spans : List Span) (stuck : Option ℕ) → IsCut 0 text spans stuck
-  → record { cut : IsCut 0 text spans stuck; hold : All (IsWordOf text) spans }
+    → record { cut : IsCut 0 text spans stuck; hold : All (IsWordOf text) spans }
 both text spans stuck cut = record { cut = cut; hold = cut_words text 0 text spans stuck (omega arith) refl cut }
 
 pub returns-in_default : goal.returns-in_default
@@ -33,15 +33,15 @@ returns-in_default c =
     let text = c.args.text.now in
     let at = c.loop-at.at in
     let not_blank : class_of (get_or text at 0) ≢ Blank =
-      λ e. let no : IsTrue false = c.if-is_blank.ensures.1 (c.class_of.ensures ∙ e) in absurd cc in
+    λ e. let no : IsTrue false = c.if-is_blank.ensures.1 (c.class_of.ensures ∙ e) in absurd cc in
     let no_word : HasNoWord (drop at text) = subst HasNoWord (take_rest text at) c.in_default.ensures.none in
     both text c.of.result (Some at)
-      (subst (λ l. IsCut 0 text l (Some at)) (sym c.of.ensures)
-        (Continues-none text at c.loop-at.spans.items (get_or text at 0) c.loop-at-test.true refl not_blank no_word c.loop-at.invariant))
+    (subst (λ l. IsCut 0 text l (Some at)) (sym c.of.ensures)
+    (Continues-none text at c.loop-at.spans.items (get_or text at 0) c.loop-at-test.true refl not_blank no_word c.loop-at.invariant))
 
 pub returns : goal.returns
 returns c =
     let text = c.args.text.now in
     both text c.of-2.result None
-      (subst (λ l. IsCut 0 text l None) (sym c.of-2.ensures)
-        (Continues-end text c.loop-at.at c.loop-at.spans.items c.loop-at-test.false c.loop-at.invariant))
+    (subst (λ l. IsCut 0 text l None) (sym c.of-2.ensures)
+    (Continues-end text c.loop-at.at c.loop-at.spans.items c.loop-at-test.false c.loop-at.invariant))

@@ -23,7 +23,7 @@ number_of-requires c =
     let text = c.args.text.now in
     let class_is : class_of (get_or text c.args.span.start 0) ≡ Digit = cc in
     subst AreDigits (sym (c.as_bytes-in-Digit.ensures.value ∙ c.range-word.ensures.value))
-      (digit_word (word_at text c.args.span) c.requires.word (first_class text c.args.span Digit c.requires class_is))
+    (digit_word (word_at text c.args.span) c.requires.word (first_class text c.args.span Digit c.requires class_is))
 
 pub returns-in-Quote : goal.returns-in-Quote
 returns-in-Quote c =
@@ -42,6 +42,6 @@ returns-in_default c =
     let same : first ≡ c.class_of.result = first_class text span c.class_of.result c.requires cc in
     ap (λ s. Sign s) (c.of.ensures ∙ ap symbol_of c.range-word.ensures.value)
     ∙ sym (ap capped (sign_by first word
-        (λ e. c.in_default.not-Letter (sym same ∙ e))
-        (λ e. c.in_default.not-Digit (sym same ∙ e))
-        (λ e. c.in_default.not-Quote (sym same ∙ e))))
+    (λ e. c.in_default.not-Letter (sym same ∙ e))
+    (λ e. c.in_default.not-Digit (sym same ∙ e))
+    (λ e. c.in_default.not-Quote (sym same ∙ e))))
