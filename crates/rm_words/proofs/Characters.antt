@@ -1,16 +1,15 @@
 -- a cut parts no character
-use Rattle.std.proofs.Common.{◌≡◌, ℕ, ◌+◌, ◌<◌, ◌≤◌, Option, Some, None, All, List, [], ◌∷◌, length, take, drop, get_or, refl, sym, ◌∙◌, ap, subst, arith}
+use Rattle.std.proofs.Common.{◌≡◌, ℕ, ◌+◌, ◌<◌, ◌≤◌, Option, List, ◌∷◌, length, drop, get_or, sym, ◌∙◌, ap, arith}
 use Rattle.std.specs.Str.{IsUtf8, IsCharBoundary}
 use Rattle.std.proofs.lemmas.List.Elements.{All-nil, All-cons}
 use Rattle.std.proofs.lemmas.Str.{IsCharBoundary-end, IsCharBoundary-after_ascii}
 use Rattle.rm_words.specs.declared.class.Class.TheVariants as class
 use Rattle.rm_words.specs.declared.spans.Span.{Span}
 use Rattle.rm_words.specs.Class.{class_of}
-use Rattle.rm_words.specs.Word.{is_word}
-use Rattle.rm_words.specs.Cut.{IsCut, ends, blank, word, none, IsWordOf, OnCharacters, word_at}
+use Rattle.rm_words.specs.Cut.{IsCut, ends, blank, word, none, IsWordOf, OnCharacters}
 use Rattle.rm_words.proofs.Classes.{known_ascii}
 use Rattle.rm_words.proofs.CutLaws.{further, first_at, word_here}
-use Rattle.rm_words.proofs.Tokens.{start_boundary, end_boundary}
+use Rattle.rm_words.proofs.Tokens.{end_boundary}
 
 -- where the next word or blank stands a character begins
 pub on_characters : (whole : List ℕ) (at : ℕ) (text : List ℕ) (spans : List Span) (stuck : Option ℕ)

@@ -1,11 +1,11 @@
 -- a text has one cut, which grows word by word
-use Rattle.std.proofs.Common.{◌≡◌, ◌≢◌, ℕ, zero, suc, ◌+◌, ◌<◌, ◌≤◌, Option, Some, None, Bool, true, false, List, [], ◌∷◌, ◌++◌, length, take, drop, get_or, refl, sym, ◌∙◌, ap, subst, arith, append_assoc, drop-cons, add-one}
+use Rattle.std.proofs.Common.{◌≡◌, ◌≢◌, ℕ, zero, suc, ◌+◌, ◌<◌, ◌≤◌, Option, Some, None, List, [], ◌∷◌, ◌++◌, length, drop, get_or, sym, ◌∙◌, ap, subst, arith, append_assoc, drop-cons, add-one}
 use Rattle.std.proofs.lemmas.List.{append-nil, drop_all, length-drop}
 use Rattle.std.proofs.Math.Seq.{drop-nil}
 use Rattle.rm_words.specs.declared.class.Class.TheVariants.{Blank}
 use Rattle.rm_words.specs.declared.spans.Span.{Span}
 use Rattle.rm_words.specs.Class.{class_of}
-use Rattle.rm_words.specs.Word.{is_word, IsLongest, HasNoWord}
+use Rattle.rm_words.specs.Word.{IsLongest, HasNoWord}
 use Rattle.rm_words.specs.Cut.{IsCut, ends, blank, word, none}
 
 -- these words and a cut of what stands behind a place are a cut of the text

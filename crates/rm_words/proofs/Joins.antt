@@ -1,5 +1,5 @@
 -- words that a space joins are cut into themselves
-use Rattle.std.proofs.Common.{◌≡◌, ℕ, zero, suc, ◌+◌, ◌-◌, ◌<◌, ◌≤◌, Option, Some, None, Bool, true, false, List, [], ◌∷◌, ◌++◌, length, take, drop, map, refl, sym, ◌∙◌, ap, subst, arith}
+use Rattle.std.proofs.Common.{◌≡◌, ℕ, suc, ◌+◌, ◌-◌, None, true, false, List, [], ◌∷◌, ◌++◌, length, take, drop, map, refl, sym, ◌∙◌, ap, subst, arith}
 use Rattle.std.proofs.Math.Seq.{take-append_seam, drop-append_seam, take-append-add, drop-append-add, take-length, drop-length}
 use Rattle.std.proofs.lemmas.List.{length-append, map-append}
 use Rattle.rm_words.specs.declared.class.Class.{Class}
@@ -8,9 +8,9 @@ use Rattle.rm_words.specs.declared.scan.Scan.{Scan}
 use Rattle.rm_words.specs.declared.scan.Scan.TheVariants as scan
 use Rattle.rm_words.specs.declared.spans.Span.{Span}
 use Rattle.rm_words.specs.Class.{class_of}
-use Rattle.rm_words.specs.Word.{is_word, are_word, IsLongest, HasNoWord}
-use Rattle.rm_words.specs.Scan.{step, accepts}
-use Rattle.rm_words.specs.Cut.{IsCut, ends, blank, word, none, AreWords, joined, spans_from, word_at, words_at}
+use Rattle.rm_words.specs.Word.{is_word, are_word, IsLongest}
+use Rattle.rm_words.specs.Scan.{accepts}
+use Rattle.rm_words.specs.Cut.{IsCut, ends, blank, word, AreWords, joined, spans_from, word_at, words_at}
 use Rattle.rm_words.proofs.Cuts.{drop_drop}
 use Rattle.rm_words.proofs.Scans.{runs, runs-append, dead_runs, word_runs}
 

@@ -1,11 +1,9 @@
 -- the number that digits write, read byte by byte
-use Rattle.std.proofs.Common.{◌≡◌, ℕ, zero, suc, ◌+◌, ◌-◌, ◌*◌, ◌<◌, ◌≤◌, min, List, [], ◌∷◌, length, drop, get_or, refl, sym, ◌∙◌, ap, subst, arith, drop-cons, add-one, ◌⊎◌, inl, inr}
+use Rattle.std.proofs.Common.{◌≡◌, ℕ, zero, suc, ◌+◌, ◌-◌, ◌*◌, ◌<◌, ◌≤◌, min, List, [], ◌∷◌, length, drop, get_or, sym, ◌∙◌, ap, subst, arith, drop-cons, add-one, ◌⊎◌, inl, inr}
 use Rattle.std.specs.Char.{digit_value}
 use Rattle.std.specs.Int.{IsInRange}
 use Rattle.std.specs.Str.Parse.{digits_value, digits_value_after}
 use Rattle.std.proofs.lemmas.Str.{digit_value_digit}
-use Rattle.rm_words.specs.declared.class.Class.TheVariants.{Digit}
-use Rattle.rm_words.specs.Class.{class_of}
 use Rattle.rm_words.specs.Token.{AreDigits, most}
 use Rattle.rm_words.proofs.Classes.{digit_range}
 

@@ -1,12 +1,12 @@
 -- what the printed words say
-use Rattle.std.proofs.Common.{◌≡◌, ◌≢◌, ℕ, zero, suc, ◌+◌, ◌-◌, ◌<◌, ◌≤◌, ◌^◌, Bool, true, false, ◌&&◌, ◌||◌, ◌==◌, cond, if◌then◌else◌, List, [], ◌∷◌, ◌++◌, length, take, drop, map, get_or, refl, sym, ◌∙◌, ap, subst, arith}
+use Rattle.std.proofs.Common.{◌≡◌, ℕ, suc, ◌+◌, ◌-◌, ◌<◌, ◌^◌, Bool, true, false, ◌&&◌, ◌==◌, if◌then◌else◌, List, [], ◌∷◌, ◌++◌, length, take, map, refl, sym, ◌∙◌, ap, arith}
 use Rattle.std.specs.Char.{digit_value}
 use Rattle.std.specs.Int.{IsInRange}
 use Rattle.std.specs.List.{list_all}
 use Rattle.std.specs.Fmt.{decimal}
 use Rattle.std.specs.Str.Parse.{AllDigits, IsNumeral, digits_value}
 use Rattle.std.proofs.Math.Seq.{take-append_seam}
-use Rattle.std.proofs.lemmas.List.{length-append, map-append}
+use Rattle.std.proofs.lemmas.List.{length-append}
 use Rattle.std.proofs.lemmas.Fmt.{decimal_is_IsNumeral}
 use Rattle.std.proofs.lemmas.Bool.Decides.{nat_tests}
 use Rattle.rm_words.specs.declared.class.Class.{Class}
@@ -14,8 +14,8 @@ use Rattle.rm_words.specs.declared.class.Class.TheVariants as class
 use Rattle.rm_words.specs.declared.token.Symbol.{Symbol}
 use Rattle.rm_words.specs.declared.token.Symbol.TheVariants as symbol
 use Rattle.rm_words.specs.Class.{class_of}
-use Rattle.rm_words.specs.Word.{is_word, are_word, is_bare, is_digit, is_quote, goes_on, closes}
-use Rattle.rm_words.specs.Token.{Bare, Number, Quoted, Says, Sign, capped, doubled, folded, inner, quoted, symbol_bytes, token_by, token_of, undoubled, undoubled_from}
+use Rattle.rm_words.specs.Word.{are_word, is_bare, is_digit, is_quote, goes_on, closes}
+use Rattle.rm_words.specs.Token.{Bare, Number, Quoted, Says, Sign, doubled, folded, quoted, symbol_bytes, token_by, undoubled, undoubled_from}
 use Rattle.rm_words.proofs.Classes.{class_tells}
 use Rattle.rm_words.proofs.Scans.{alone, alone', alone''}
 

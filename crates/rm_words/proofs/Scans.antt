@@ -1,5 +1,5 @@
 -- the scan accepts exactly the words, and finds the longest
-use Rattle.std.proofs.Common.{◌≡◌, ℕ, zero, suc, ◌+◌, ◌<◌, ◌≤◌, Option, Some, None, Bool, true, false, cond, ◌||◌, if◌then◌else◌, List, [], ◌∷◌, length, IfSome, IfNone, take, drop, get_or, map, ◌++◌, refl, sym, ◌∙◌, ap, subst, arith}
+use Rattle.std.proofs.Common.{◌≡◌, ℕ, zero, suc, ◌+◌, ◌<◌, ◌≤◌, Option, Some, None, Bool, true, false, ◌||◌, if◌then◌else◌, List, [], ◌∷◌, length, IfSome, IfNone, take, drop, get_or, map, ◌++◌, refl, sym, ◌∙◌, ap, subst, arith}
 use Rattle.std.specs.List.{list_all}
 use Rattle.std.proofs.lemmas.List.{at_drop_more}
 use Rattle.rm_words.specs.declared.class.Class.{Class}

@@ -14,7 +14,7 @@ use Rattle.rm_words.specs.Class.{class_of}
 use Rattle.rm_words.specs.Word.{is_word, are_word, is_digit}
 use Rattle.rm_words.specs.Scan.{step, accepts}
 use Rattle.rm_words.specs.Cut.{IsWordOf, word_at}
-use Rattle.rm_words.specs.Token.{AreDigits, Token, Sign, inner, symbol_of, token_by}
+use Rattle.rm_words.specs.Token.{AreDigits, Sign, inner, symbol_of, token_by}
 use Rattle.rm_words.proofs.Classes.{known_ascii}
 use Rattle.rm_words.proofs.Scans.{runs, runs-append, word_runs, alone}
 use Rattle.rm_words.proofs.CutLaws.{not_both}

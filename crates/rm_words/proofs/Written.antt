@@ -1,12 +1,12 @@
 -- a word is what its token says
-use Rattle.std.proofs.Common.{◌≡◌, ℕ, zero, suc, ◌+◌, ◌-◌, ◌<◌, ◌≤◌, Bool, true, false, ◌&&◌, ◌||◌, ◌==◌, ◌⊎◌, inl, inr, List, [], ◌∷◌, ◌++◌, length, take, map, refl, sym, ◌∙◌, ap, subst, arith}
+use Rattle.std.proofs.Common.{◌≡◌, ℕ, suc, ◌-◌, Bool, true, false, ◌||◌, ◌==◌, ◌⊎◌, inl, inr, List, [], ◌∷◌, ◌++◌, length, take, map, refl, sym, ◌∙◌, ap, subst, arith}
 use Rattle.std.specs.List.{list_all}
 use Rattle.std.proofs.lemmas.Bool.Decides.{nat_tests}
 use Rattle.rm_words.specs.declared.class.Class.{Class}
 use Rattle.rm_words.specs.declared.class.Class.TheVariants as class
 use Rattle.rm_words.specs.Class.{class_of, is_mark}
 use Rattle.rm_words.specs.Word.{is_word, are_word, is_bare, is_quote, is_symbol, goes_on, closes}
-use Rattle.rm_words.specs.Token.{IsWritten, Sign, inner, symbol_bytes, symbol_of, token_by, token_of}
+use Rattle.rm_words.specs.Token.{IsWritten, inner, symbol_bytes, symbol_of, token_by, token_of}
 use Rattle.rm_words.proofs.Classes.{class_tells}
 use Rattle.rm_words.proofs.Scans.{alone', alone''}
 use Rattle.rm_words.proofs.Tokens.{and_true, digit_word}

@@ -1,8 +1,8 @@
 -- which lists of bytes are words
-use Rattle.std.specs.Prelude.{◌≡◌, ℕ, ◌<◌, ◌≤◌, Bool, true, false, ◌||◌, ◌&&◌, List, [], ◌∷◌, length, take, map, ◌≢◌}
+use Rattle.std.specs.Prelude.{◌≡◌, ℕ, ◌<◌, ◌≤◌, Bool, true, false, ◌||◌, ◌&&◌, List, [], ◌∷◌, length, take, map}
 use Rattle.std.specs.List.{list_all}
 use Rattle.rm_words.specs.declared.class.Class.{Class}
-use Rattle.rm_words.specs.declared.class.Class.TheVariants.{Letter, Digit, Quote, Blank, Less, Greater, Equal, Mark, Other}
+use Rattle.rm_words.specs.declared.class.Class.TheVariants.{Letter, Digit, Quote, Less, Greater, Equal, Mark}
 use Rattle.rm_words.specs.Class.{class_of}
 
 -- a letter, `_` or a digit

@@ -1,6 +1,4 @@
-use Rattle.std.proofs.Common.{◌≡◌, ℕ, ◌-◌, ◌≤◌, Option, List, ◌++◌, length, drop}
-use Rattle.rm_words.specs.declared.spans.Span.{Span}
-use Rattle.rm_words.specs.Cut.{IsCut}
+use Rattle.std.proofs.Common.{◌-◌, length}
 use Rattle.rm_words.proofs.Cuts.{Continues}
 use Rattle.rm_words.proofs.cutting.cut.Given as goal
 

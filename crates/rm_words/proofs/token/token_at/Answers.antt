@@ -1,9 +1,9 @@
-use Rattle.std.proofs.Common.{◌≡◌, get_or, refl, sym, ◌∙◌, ap, subst}
+use Rattle.std.proofs.Common.{◌≡◌, get_or, sym, ◌∙◌, ap, subst}
 use Rattle.rm_words.specs.declared.class.Class.TheVariants.{Digit, Quote}
 use Rattle.rm_words.specs.Class.{class_of}
 use Rattle.rm_words.specs.Cut.{word_at}
 use Rattle.rm_words.specs.Token.{AreDigits, Quoted, Sign, capped, symbol_of, token_by}
-use Rattle.rm_words.proofs.Tokens.{start_boundary, end_boundary, inner_start_boundary, inner_end_boundary, quotes_apart, digit_word, first_class, sign_by, inner_at}
+use Rattle.rm_words.proofs.Tokens.{start_boundary, end_boundary, inner_start_boundary, inner_end_boundary, digit_word, first_class, sign_by, inner_at}
 use Rattle.rm_words.proofs.token.token_at.Goals as goal
 
 pub range-word-requires-clause-start_boundary : goal.range-word-requires-clause-start_boundary

@@ -1,11 +1,10 @@
-use Rattle.std.proofs.Common.{◌≡◌, ℕ, ◌+◌, Bool, true, false, ◌&&◌, ◌==◌, length, refl, sym, ◌∙◌, ap, subst, arith}
+use Rattle.std.proofs.Common.{◌≡◌, ℕ, Bool, true, false, ◌&&◌, ◌==◌, length, refl, sym, ap, subst, arith}
 use Rattle.std.specs.Str.{chars}
 use Rattle.std.specs.String.{string_bytes}
 use Rattle.std.proofs.lemmas.Bool.Decides.{nat_tests}
 use Rattle.std.proofs.lemmas.Iterator.{YieldsList-from_chars}
 use Rattle.std.proofs.lemmas.Iterator.Consumers.{YieldsList-turn, YieldsList-end}
 use Rattle.std.proofs.lemmas.List.{length_push}
-use Rattle.std.proofs.lemmas.Str.{encodes-chars}
 use Rattle.rm_words.proofs.Undoubling.{Undoubles, Undoubles-push, Undoubles-skip, Undoubles-start, Undoubles-end}
 use Rattle.rm_words.proofs.token.undoubled.Goals as goal
 use Rattle.rm_words.proofs.token.undoubled.Goals.{else-half-via-then-half+else-c-eq39, else-half-via-else-half}
