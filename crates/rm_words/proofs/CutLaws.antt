@@ -6,7 +6,7 @@ use Rattle.rm_words.specs.declared.class.Class.TheVariants.{Blank}
 use Rattle.rm_words.specs.declared.spans.Span.{Span}
 use Rattle.rm_words.specs.Class.{class_of}
 use Rattle.rm_words.specs.Word.{is_word, are_word, IsLongest, HasNoWord}
-use Rattle.rm_words.specs.Cut.{IsCut, ends, blank, word, none, IsWordOf, Rise, IsIn, cut_end, IsStuckAt, word_at}
+use Rattle.rm_words.specs.Cut.{IsCut, ends, blank, word, none, AreWords, IsWordOf, Rise, IsIn, cut_end, IsStuckAt, word_at, words_at}
 use Rattle.rm_words.proofs.Scans.{is_word_not_empty}
 use Rattle.rm_words.proofs.Cuts.{drop_drop}
 
@@ -90,6 +90,18 @@ cut_words whole at text spans stuck within is (word _ _ n more _ longest cut) =
     (word_here whole at text n within is longest)
     (cut_words whole (at + n) (drop n text) more stuck next.0 next.1 cut)
 cut_words whole at text spans stuck within is (none _ c rest not_blank no_word) = All-nil (IsWordOf whole)
+
+pub cut_are_words : (whole : List ℕ) (at : ℕ) (text : List ℕ) (spans : List Span) (stuck : Option ℕ)
+    → at ≤ length whole → drop at whole ≡ text → IsCut at text spans stuck → AreWords (words_at whole spans)
+cut_are_words whole at text spans stuck within is (ends _) = tt
+cut_are_words whole at text spans stuck within is (blank _ c rest _ _ is_blank cut) =
+    let next : (at + 1 ≤ length whole) × (drop (at + 1) whole ≡ rest) = further whole at (c ∷ rest) 1 within is (omega arith) in
+    cut_are_words whole (at + 1) rest spans stuck next.0 next.1 cut
+cut_are_words whole at text spans stuck within is (word _ _ n more _ longest cut) =
+    let next : (at + n ≤ length whole) × (drop (at + n) whole ≡ drop n text) = further whole at text n within is longest.fits in
+    let stands = word_here whole at text n within is longest in
+    (stands.word, cut_are_words whole (at + n) (drop n text) more stuck next.0 next.1 cut)
+cut_are_words whole at text spans stuck within is (none _ c rest not_blank no_word) = tt
 
 pub cut_rises : (low at : ℕ) (text : List ℕ) (spans : List Span) (stuck : Option ℕ) → low ≤ at → IsCut at text spans stuck → Rise low spans
 cut_rises low at text spans stuck h (ends _) = tt

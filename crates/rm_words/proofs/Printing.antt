@@ -17,7 +17,7 @@ use Rattle.rm_words.specs.Class.{class_of}
 use Rattle.rm_words.specs.Word.{are_word, is_bare, is_digit, is_quote, goes_on, closes}
 use Rattle.rm_words.specs.Token.{Bare, Number, Quoted, Says, Sign, doubled, folded, quoted, symbol_bytes, token_by, undoubled, undoubled_from}
 use Rattle.rm_words.proofs.Classes.{class_tells}
-use Rattle.rm_words.proofs.Scans.{alone, alone', alone''}
+use Rattle.rm_words.proofs.Scans.{or_two_false, or_three_false, or_false}
 
 pub symbol_says : (s : Symbol) → Says (symbol_bytes s) (Sign s)
 symbol_says symbol.AtMost = record { word = refl; token = refl }
@@ -36,7 +36,7 @@ symbol_says symbol.Minus = record { word = refl; token = refl }
 
 bare_by : (c : ℕ) (cs : List ℕ) (k : Class) → class_of c ≡ k → is_bare (k ∷ map class_of cs) ≡ true → Says (c ∷ cs) (Bare (folded (c ∷ cs)))
 bare_by c cs class.Letter is h = record {
-  word = ap (λ k. are_word (k ∷ map class_of cs)) is ∙ sym (alone' (list_all goes_on (map class_of cs))) ∙ h;
+  word = ap (λ k. are_word (k ∷ map class_of cs)) is ∙ sym (or_three_false (list_all goes_on (map class_of cs))) ∙ h;
   token = ap (λ k. token_by k (c ∷ cs)) is;
 }
 bare_by c cs class.Digit is h = absurd cc
@@ -68,7 +68,7 @@ numeral_says [] h = absurd (omega (arith, h.0))
 numeral_says (c ∷ cs) h =
     let is : class_of c ≡ class.Digit = range_digit c (digit_small c h.1.0) in
     record {
-      word = ap (λ k. are_word (k ∷ map class_of cs)) is ∙ sym (alone (list_all is_digit (map class_of cs))) ∙ digits_all cs h.1.1;
+      word = ap (λ k. are_word (k ∷ map class_of cs)) is ∙ sym (or_two_false (list_all is_digit (map class_of cs))) ∙ digits_all cs h.1.1;
       token = ap (λ k. token_by k (c ∷ cs)) is;
     }
 
@@ -106,7 +106,7 @@ quoted_says text =
     let long : length rest ≡ length (doubled text) + 1 = length-append (doubled text) (39 ∷ []) in
     let less : suc (length rest) - 2 ≡ length (doubled text) = omega arith in
     record {
-      word = sym (alone'' (closes false (map class_of rest))) ∙ ends_quoted text;
+      word = sym (or_false (closes false (map class_of rest))) ∙ ends_quoted text;
       token = ap (λ l. Quoted l) (ap (λ k. take k rest) less ∙ take-append_seam (doubled text) (39 ∷ []));
     }
 

@@ -137,23 +137,23 @@ greater_runs (class.Less ∷ ks) = dead_runs ks
 greater_runs (class.Mark ∷ ks) = dead_runs ks
 greater_runs (class.Other ∷ ks) = dead_runs ks
 
-pub alone : (b : Bool) → b ≡ b || false || false
-alone true = refl
-alone false = refl
+pub or_two_false : (b : Bool) → b ≡ b || false || false
+or_two_false true = refl
+or_two_false false = refl
 
-pub alone' : (b : Bool) → b ≡ b || false || false || false
-alone' true = refl
-alone' false = refl
+pub or_three_false : (b : Bool) → b ≡ b || false || false || false
+or_three_false true = refl
+or_three_false false = refl
 
-pub alone'' : (b : Bool) → b ≡ b || false
-alone'' true = refl
-alone'' false = refl
+pub or_false : (b : Bool) → b ≡ b || false
+or_false true = refl
+or_false false = refl
 
 pub word_runs : (ks : List Class) → accepts (runs scan.Start ks) ≡ are_word ks
 word_runs [] = refl
-word_runs (class.Letter ∷ ks) = bare_runs ks ∙ alone' (list_all goes_on ks)
-word_runs (class.Digit ∷ ks) = number_runs ks ∙ alone (list_all is_digit ks)
-word_runs (class.Quote ∷ ks) = quoted_runs false ks ∙ alone'' (closes false ks)
+word_runs (class.Letter ∷ ks) = bare_runs ks ∙ or_three_false (list_all goes_on ks)
+word_runs (class.Digit ∷ ks) = number_runs ks ∙ or_two_false (list_all is_digit ks)
+word_runs (class.Quote ∷ ks) = quoted_runs false ks ∙ or_false (closes false ks)
 word_runs (class.Less ∷ ks) = less_runs ks
 word_runs (class.Greater ∷ ks) = greater_runs ks
 word_runs (class.Equal ∷ []) = refl

@@ -16,7 +16,7 @@ use Rattle.rm_words.specs.Scan.{step, accepts}
 use Rattle.rm_words.specs.Cut.{IsWordOf, word_at}
 use Rattle.rm_words.specs.Token.{AreDigits, Sign, inner, symbol_of, token_by}
 use Rattle.rm_words.proofs.Classes.{known_ascii}
-use Rattle.rm_words.proofs.Scans.{runs, runs-append, word_runs, alone}
+use Rattle.rm_words.proofs.Scans.{runs, runs-append, word_runs, or_two_false}
 use Rattle.rm_words.proofs.CutLaws.{not_both}
 
 pub and_true : (a b : Bool) → (a && b) ≡ true → (a ≡ true) × (b ≡ true)
@@ -150,7 +150,7 @@ pub digit_word : (w : List ℕ) → is_word w ≡ true → class_of (get_or w 0 
 digit_word [] h e = absurd cc
 digit_word (c ∷ cs) h e =
     let ks = map class_of cs in
-    (e, all_digits cs (alone (list_all is_digit ks) ∙ sym (ap (λ k. are_word (k ∷ ks)) e) ∙ h))
+    (e, all_digits cs (or_two_false (list_all is_digit ks) ∙ sym (ap (λ k. are_word (k ∷ ks)) e) ∙ h))
 
 pub sign_by : (k : Class) (w : List ℕ) → k ≢ class.Letter → k ≢ class.Digit → k ≢ class.Quote → token_by k w ≡ Sign (symbol_of w)
 sign_by class.Letter w a b c = absurd (a refl)

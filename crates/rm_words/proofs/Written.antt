@@ -8,7 +8,7 @@ use Rattle.rm_words.specs.Class.{class_of, is_mark}
 use Rattle.rm_words.specs.Word.{is_word, are_word, is_bare, is_quote, is_symbol, goes_on, closes}
 use Rattle.rm_words.specs.Token.{IsWritten, inner, symbol_bytes, symbol_of, token_by, token_of}
 use Rattle.rm_words.proofs.Classes.{class_tells}
-use Rattle.rm_words.proofs.Scans.{alone', alone''}
+use Rattle.rm_words.proofs.Scans.{or_three_false, or_false}
 use Rattle.rm_words.proofs.Tokens.{and_true, digit_word}
 
 same_byte : (c n : ℕ) → (c == n) ≡ true → n ≡ c
@@ -107,11 +107,11 @@ behind_greater c d ds class.Other is at h = absurd cc
 written_by : (c : ℕ) (cs : List ℕ) (k : Class) → class_of c ≡ k → are_word (k ∷ map class_of cs) ≡ true → IsWritten (token_by k (c ∷ cs)) (c ∷ cs)
 unfolding Signs
 written_by c cs class.Letter is h =
-    (ap (λ k. is_bare (k ∷ map class_of cs)) is ∙ alone' (list_all goes_on (map class_of cs)) ∙ h, refl)
+    (ap (λ k. is_bare (k ∷ map class_of cs)) is ∙ or_three_false (list_all goes_on (map class_of cs)) ∙ h, refl)
 written_by c cs class.Digit is h =
     (digit_word (c ∷ cs) (ap (λ k. are_word (k ∷ map class_of cs)) is ∙ h) is, refl)
 written_by c cs class.Quote is h =
-    quoted_by c cs (same_byte c 39 (class_tells c class.Quote is)) (alone'' (closes false (map class_of cs)) ∙ h)
+    quoted_by c cs (same_byte c 39 (class_tells c class.Quote is)) (or_false (closes false (map class_of cs)) ∙ h)
 written_by c cs class.Blank is h = absurd cc
 written_by c [] class.Less is h = one_by c 60 refl (same_byte c 60 (class_tells c class.Less is))
 written_by c (d ∷ ds) class.Less is h = behind_less c d ds (class_of d) (same_byte c 60 (class_tells c class.Less is)) refl h

@@ -24,6 +24,12 @@ pub fn spans_hold_words()
         → IsCut 0 text spans stuck → All (IsWordOf text) spans }
 {}
 
+/// The slices at the spans of a cut are words.
+pub fn slices_are_words()
+    ensures { (text : List ℕ) (spans : List Span) (stuck : Option ℕ)
+        → IsCut 0 text spans stuck → AreWords (words_at text spans) }
+{}
+
 /// The spans of a cut rise.
 pub fn spans_rise()
     ensures { (text : List ℕ) (spans : List Span) (stuck : Option ℕ)
