@@ -20,6 +20,10 @@ if_some : {A : Type 0} (o : Option A) (P : A → Type 0) → ((x : A) → o ≡ 
 if_some None P each = tt
 if_some (Some x) P each = each x refl
 
+pub always : {A : Type 0} (o : Option A) (P : A → Type 0) → ((x : A) → P x) → IfSome o P
+always None P each = tt
+always (Some x) P each = each x
+
 at_some : {A : Type 0} (o : Option A) (P : A → Type 0) (x : A) → IfSome o P → o ≡ Some x → P x
 at_some None P x h e = absurd (cc)
 at_some (Some y) P x h e = let same : y ≡ x = cc in subst P same h
@@ -40,7 +44,7 @@ too_long-script o bytes long =
     ap (λ b. cond b (no_script TOO_LONG) (lines_end 1 (record { machine = script_start o; names = [] }) (lines bytes))) is
 
 -- the text and the status are the script's
-abbrev IsScript : Option Options → Streams → ℕ → Type 0
+abbrev pub IsScript : Option Options → Streams → ℕ → Type 0
 IsScript o s status = IfSome s.left (λ bytes. Appends s.written s.written_now (script_with o bytes).text × (status ≡ (script_with o bytes).status))
 
 whole-exact : (o : Option Options) (s : Streams) (status : ℕ) → WroteWhole o s status → IsScript o s status
@@ -54,10 +58,10 @@ long-exact : (o : Option Options) (s : Streams) → IsSome o → IsTooLong s.lef
 long-exact None s some long kept = absurd (false≢true some)
 long-exact (Some o) s some long kept =
     if_some s.left _ (λ bytes told.
-      let too = long-turn bytes s.left_now (subst (λ (q : Option (List ℕ)). IsTooLong q s.left_now) told long) in
-      let is = too_long-script o bytes too in
-      let P : ScriptEnd → Type 0 = λ e. Appends s.written s.written_now e.text × (TOO_LONG ≡ e.status) in
-      subst P (sym is) (nothing_appended s.written s.written_now kept, refl))
+    let too = long-turn bytes s.left_now (subst (λ (q : Option (List ℕ)). IsTooLong q s.left_now) told long) in
+    let is = too_long-script o bytes too in
+    let P : ScriptEnd → Type 0 = λ e. Appends s.written s.written_now e.text × (TOO_LONG ≡ e.status) in
+    subst P (sym is) (nothing_appended s.written s.written_now kept, refl))
 
 pub exact : (o : Option Options) (s : Streams) (e : Ended) → EndsAs o s e → (Rose s.reads s.reads_now → ⊥) → (Rose s.writes s.writes_now → ⊥) → status_of e ≢ NO_MEMORY
     → IsScript o s (status_of e)

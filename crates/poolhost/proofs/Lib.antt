@@ -4,3 +4,4 @@ mod WordsLemmas
 pub mod Written
 pub mod ScriptLaws
 pub mod EndedLaws
+pub mod RunLemmas

@@ -58,8 +58,8 @@ line_keeps : (P : State → Type 0) → ((m : State) (e : Event) → P m → P (
 line_keeps P each n s line h =
     bad_or P _ (cond (is_comment line) (Goes [] s) (command_turn s (command_of line)))
     (elim (is_comment line) as (λ b. OnGoes P (cond b (Goes [] s) (command_turn s (command_of line)))) [
-      true ↦ h
-    | false ↦ command_keeps P each s (command_of line) h
+      | true ↦ h
+      | false ↦ command_keeps P each s (command_of line) h
     ])
 
 -- what each machine call keeps holds of the journal with which the lines end
@@ -92,20 +92,20 @@ below-some : (limit n : ℕ) (o : Option ℕ) → below limit o ≡ Some n → (
 below-some limit n None h = absurd (cc)
 below-some limit n (Some m) h =
     let turn : (b : Bool) → ltb m limit ≡ b → cond b (Some m) None ≡ Some n → (Some m ≡ Some n) × (n < limit) =
-      λ b. elim b as (λ c. ltb m limit ≡ c → cond c (Some m) None ≡ Some n → (Some m ≡ Some n) × (n < limit)) [
-        true ↦ λ e (k : Some m ≡ Some n). let same : m ≡ n = cc in (k, let lt : m < limit = grind (arith, nat_tests) in omega arith)
+    λ b. elim b as (λ c. ltb m limit ≡ c → cond c (Some m) None ≡ Some n → (Some m ≡ Some n) × (n < limit)) [
+      | true ↦ λ e (k : Some m ≡ Some n). let same : m ≡ n = cc in (k, let lt : m < limit = grind (arith, nat_tests) in omega arith)
       | false ↦ λ e (k : None ≡ Some n). absurd (cc)
-      ] in
+    ] in
     turn (ltb m limit) refl h
 
 at_least-some : (least n : ℕ) (o : Option ℕ) → at_least least o ≡ Some n → least ≤ n
 at_least-some least n None h = absurd (cc)
 at_least-some least n (Some m) h =
     let turn : (b : Bool) → leb least m ≡ b → cond b (Some m) None ≡ Some n → least ≤ n =
-      λ b. elim b as (λ c. leb least m ≡ c → cond c (Some m) None ≡ Some n → least ≤ n) [
-        true ↦ λ e (k : Some m ≡ Some n). let same : m ≡ n = cc in let le : least ≤ m = grind (arith, nat_tests) in omega arith
+    λ b. elim b as (λ c. leb least m ≡ c → cond c (Some m) None ≡ Some n → least ≤ n) [
+      | true ↦ λ e (k : Some m ≡ Some n). let same : m ≡ n = cc in let le : least ≤ m = grind (arith, nat_tests) in omega arith
       | false ↦ λ e (k : None ≡ Some n). absurd (cc)
-      ] in
+    ] in
     turn (leb least m) refl h
 
 in_range-some : (least most n : ℕ) (o : Option ℕ) → in_range least most o ≡ Some n → (least ≤ n) × (n ≤ most)
@@ -127,10 +127,10 @@ both-within o (Some memory) (Some cores) m c h =
 cores-within : (word : List ℕ) (n : ℕ) → cores_of word ≡ Some n → (1 ≤ n) × (n ≤ CORES_MOST)
 cores-within word n h =
     let turn : (b : Bool) → cond b None (in_range 1 CORES_MOST (value_of word)) ≡ Some n → (1 ≤ n) × (n ≤ CORES_MOST) =
-      λ b. elim b as (λ c. cond c None (in_range 1 CORES_MOST (value_of word)) ≡ Some n → (1 ≤ n) × (n ≤ CORES_MOST)) [
-        true ↦ λ (k : None ≡ Some n). absurd (cc)
+    λ b. elim b as (λ c. cond c None (in_range 1 CORES_MOST (value_of word)) ≡ Some n → (1 ≤ n) × (n ≤ CORES_MOST)) [
+      | true ↦ λ (k : None ≡ Some n). absurd (cc)
       | false ↦ λ k. in_range-some 1 CORES_MOST n (value_of word) k
-      ] in
+    ] in
     turn (eqb (slice_index word 0) 48) h
 
 memory-within : (word : List ℕ) (n : ℕ) → memory_of word ≡ Some n → (MEMORY_LEAST ≤ n) × (n ≤ MEMORY_MOST)
@@ -152,10 +152,10 @@ one_history words bytes o h =
     let first = script_start o in
     let sound = let w = options-within words o h in fresh-sound o.memory o.cores w.memory_least w.memory_most w.cores_least w.cores_most in
     let legal : IsLegal first (script_with (Some o) bytes).journal =
-      elim (ltb SCRIPT_MOST (length bytes)) as (λ b. IsLegal first (cond b (no_script TOO_LONG) (lines_end 1 (record { machine = first; names = [] }) (lines bytes))).journal) [
-        true ↦ tt
+    elim (ltb SCRIPT_MOST (length bytes)) as (λ b. IsLegal first (cond b (no_script TOO_LONG) (lines_end 1 (record { machine = first; names = [] }) (lines bytes))).journal) [
+      | true ↦ tt
       | false ↦ legal-lines first 1 (record { machine = first; names = [] }) (lines bytes) (record { legal = tt; replays = refl })
-      ] in
+    ] in
     let conserved : ConservedAfterEach first (script_with (Some o) bytes).journal = conserved-after-each (fresh o.memory o.cores) SCRIPT_ROOM (script_with (Some o) bytes).journal sound in
     let both : IsOneHistory o (script_with (Some o) bytes) = record { legal = legal; conserved = conserved } in
     subst (λ (q : Option Options). IsOneHistory o (script_with q bytes)) (sym h) both

@@ -4,6 +4,8 @@ use Rattle.std.specs.Io.KnownBytes.{Appends, Keeps}
 use Rattle.rm_outside.specs.Faults.{Rose}
 use Rattle.poolhost.specs.declared.ended.Ended.{Ended}
 use Rattle.poolhost.specs.declared.ended.Ended.TheVariants as ended
+use Rattle.poolhost.specs.declared.input.InputError.{InputError}
+use Rattle.poolhost.specs.declared.input.InputError.TheVariants as input
 use Rattle.poolhost.specs.declared.options.Options.{Options}
 use Rattle.poolhost.specs.declared.ended.LinesEnd.{LinesEnd}
 use Rattle.poolhost.specs.declared.ended.LinesEnd.TheVariants as lines_end
@@ -27,6 +29,12 @@ ended_as lines_end.Whole = ended.Done
 ended_as lines_end.BadLine = ended.BadLine
 ended_as lines_end.WriteFault = ended.WriteFault
 ended_as lines_end.Memory = ended.Memory
+
+-- how a script ends that could not be read
+abbrev pub input_end : InputError → Ended
+input_end input.Failed = ended.ReadFault
+input_end input.TooLong = ended.TooLong
+input_end input.Memory = ended.Memory
 
 -- the input and the output, before a script and after it: the bytes left, the bytes written, and the counts of faults
 pub record Streams : Type 0 where

@@ -1,11 +1,10 @@
 //! How a script ends.
 
 ghost use Rattle.std.specs.Prelude.{◌≡◌};
-ghost use Rattle.poolhost.specs.Ended.{status_of, ended_as};
+ghost use Rattle.poolhost.specs.Ended.{status_of, ended_as, input_end};
 
-use crate::status::{
-    BAD_LINE, DONE, NO_MEMORY, READ_FAULT, Status, TOO_LONG, USAGE, WRITE_FAULT,
-};
+use crate::input::InputError;
+use crate::status::{BAD_LINE, DONE, NO_MEMORY, READ_FAULT, Status, TOO_LONG, USAGE, WRITE_FAULT};
 
 /// How the lines of a script ended.
 #[derive(Clone, Copy, Debug, PartialEq, Eq)]
@@ -52,5 +51,16 @@ pub fn ended_as(end: LinesEnd) -> Ended
         LinesEnd::BadLine => Ended::BadLine,
         LinesEnd::WriteFault => Ended::WriteFault,
         LinesEnd::Memory => Ended::Memory,
+    }
+}
+
+/// How a script ends that could not be read.
+pub fn input_end(error: InputError) -> Ended
+    ensures { result ≡ input_end error }
+{
+    match error {
+        InputError::Failed => Ended::ReadFault,
+        InputError::TooLong => Ended::TooLong,
+        InputError::Memory => Ended::Memory,
     }
 }

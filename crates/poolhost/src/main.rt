@@ -54,9 +54,7 @@ fn command_words(rt: &HostRuntime) -> io::Result<Vec<String>> {
 fn run_script(rt: &HostRuntime, alloc: Global, words: &[String]) -> Status {
     let mut input = ReaderSource::new(rt.stdin());
     let mut out = WriterSink::new(rt.stdout());
-    let Ok(mut keeper) = MemoryKeeper::new(alloc) else {
-        return Status(NO_MEMORY);
-    };
+    let mut keeper = MemoryKeeper::new();
     let mut shelf = MemoryShelf::new(alloc);
     let mut spool = MemorySpool::new(alloc);
     script_main::script_main(
@@ -70,8 +68,8 @@ fn run_script(rt: &HostRuntime, alloc: Global, words: &[String]) -> Status {
     )
 }
 
-/// Does what the words say, and says `usage` on standard error where they are none that it knows.
-fn run(rt: &HostRuntime, words: &[String]) -> Status {
+/// Does what the words say, and prints `usage` on standard error where they are none that it knows.
+fn run_words(rt: &HostRuntime, words: &[String]) -> Status {
     if let Some(first) = words.first() {
         let told = match first.as_str() {
             "--help" => Some(rt.println(HELP)),
@@ -91,7 +89,7 @@ fn run(rt: &HostRuntime, words: &[String]) -> Status {
 
 fn main(rt: HostRuntime) -> ExitCode {
     let status = match command_words(&rt) {
-        Ok(words) => run(&rt, &words),
+        Ok(words) => run_words(&rt, &words),
         Err(error) => {
             if error.kind() == ErrorKind::OutOfMemory {
                 Status(NO_MEMORY)
