@@ -15,6 +15,8 @@ mod run;
 mod script;
 mod script_main;
 mod status;
+#[cfg(test)]
+mod tests;
 mod texts;
 mod words;
 

@@ -1,0 +1,222 @@
+//! Scripts from bytes to bytes, over streams in memory. What is expected was worked out from the rules by hand.
+
+use crate::adapters::{ReaderSource, WriterSink};
+use crate::script_main::script_main;
+use rm_outside::failing_sink::FailingSink;
+use rm_outside::failing_source::FailingSource;
+use rm_outside::memory_keeper::MemoryKeeper;
+use rm_outside::memory_shelf::MemoryShelf;
+use rm_outside::memory_sink::MemorySink;
+use rm_outside::memory_source::MemorySource;
+use rm_outside::memory_spool::MemorySpool;
+use rm_outside::outside::Outside;
+use rm_outside::sink::Sink;
+use rm_outside::source::Source;
+use std::alloc::Global;
+use std::io;
+use std::test::Fail;
+
+/// The words of a command line.
+fn words_of(alloc: Global, line: &str) -> Result<Vec<String>, Fail> {
+    let mut words = Vec::new(alloc);
+    for word in line.split(' ') {
+        words.push(String::from_str(alloc, word)?)?;
+    }
+    Ok(words)
+}
+
+/// Runs a script over this source and this sink, and answers its status.
+fn status_over<S: Source, O: Sink>(
+    alloc: Global,
+    words: &str,
+    input: &mut S,
+    out: &mut O,
+) -> Result<u8, Fail> {
+    let words = words_of(alloc, words)?;
+    let mut shelf = MemoryShelf::new(alloc);
+    let mut spool = MemorySpool::new(alloc);
+    let mut keeper = MemoryKeeper::new();
+    let status = script_main(
+        alloc,
+        &words,
+        input,
+        out,
+        &mut shelf,
+        &mut spool,
+        &mut keeper,
+    );
+    Ok(status.0)
+}
+
+/// The words that most scripts here run with.
+const USUAL: &str = "script --memory 100M --cores 8";
+
+/// Runs a script in memory, and answers its status and what it wrote.
+fn run(alloc: Global, words: &str, script: &[u8]) -> Result<(u8, MemorySink), Fail> {
+    let mut input = MemorySource::new(script.to_vec(alloc)?);
+    let mut out = MemorySink::new(alloc);
+    let status = status_over(alloc, words, &mut input, &mut out)?;
+    Ok((status, out))
+}
+
+#[test]
+fn runs_scripts(rt: HostRuntime) -> Result<(), Fail> {
+    let cases: [(&str, &[u8], u8, &[u8]); 12] = [
+        (USUAL, b"", 0, b""),
+        (USUAL, b"\n# nothing\n\r\n", 0, b""),
+        ("script --memory 100M", b"open a dbadmin\n", 1, b""),
+        (
+            USUAL,
+            b"open a dbadmin\nfrob\n",
+            2,
+            b"a opened 1\nbad line 2\n",
+        ),
+        (
+            USUAL,
+            b"open a dbadmin\nopen b dbadmin",
+            0,
+            b"a opened 1\nb opened 2\n",
+        ),
+        (
+            USUAL,
+            b"open a dbadmin\nopen A dbadmin\n",
+            2,
+            b"a opened 1\nbad line 2\n",
+        ),
+        (USUAL, b"open a ann\n", 2, b"bad line 1\n"),
+        (USUAL, b"ask a 1\n", 2, b"bad line 1\n"),
+        (USUAL, b"done a\n", 2, b"bad line 1\n"),
+        (USUAL, b"# \xff\n", 2, b"bad line 1\n"),
+        (
+            USUAL,
+            b"open a dbadmin\nopen b dbadmin\nask a 99614720\nask b 99614721\nask a 1\n",
+            0,
+            b"a opened 1\nb opened 2\na admitted 99614720 general 99614720 0\nb refused 19 pool 99614721 99614720\na refused 21\n",
+        ),
+        (
+            USUAL,
+            b"open a dbadmin\ndone a\nask a 1\ndone a\ndone a\n",
+            0,
+            b"a opened 1\na refused 22\na admitted 23658496 general 23658496 0\na released 23658496\na refused 22\n",
+        ),
+    ];
+    for (words, script, status, text) in cases {
+        let (got, out) = run(rt.alloc(), words, script)?;
+        assert_eq!(rt; got, status, "the status of {script:?}");
+        assert_eq!(rt; out.contents(), text, "the text of {script:?}");
+    }
+    Ok(())
+}
+
+/// So many times the same line.
+fn repeated(alloc: Global, line: &[u8], times: usize) -> Result<Vec<u8>, Fail> {
+    let mut script = Vec::new(alloc);
+    for _ in 0..times {
+        script.extend_from_slice(line)?;
+    }
+    Ok(script)
+}
+
+#[test]
+fn ends_at_limits(rt: HostRuntime) -> Result<(), Fail> {
+    let alloc = rt.alloc();
+    let lines = repeated(alloc, b"#\n", 4_096)?;
+    let (status, _) = run(alloc, USUAL, &lines)?;
+    assert_eq!(rt; status, 0);
+    let more = repeated(alloc, b"#\n", 4_097)?;
+    let (status, out) = run(alloc, USUAL, &more)?;
+    assert_eq!(rt; status, 2);
+    assert_eq!(rt; out.contents(), b"bad line 4097\n".as_slice());
+
+    let longest = repeated(alloc, b"#", 65_536)?;
+    let (status, _) = run(alloc, USUAL, &longest)?;
+    assert_eq!(rt; status, 0);
+    let longer = repeated(alloc, b"#", 65_537)?;
+    let (status, _) = run(alloc, USUAL, &longer)?;
+    assert_eq!(rt; status, 2);
+    Ok(())
+}
+
+#[test]
+fn opens_so_many_sessions(rt: HostRuntime) -> Result<(), Fail> {
+    let alloc = rt.alloc();
+    let mut script = String::new(alloc);
+    for n in 1..=129u32 {
+        script.push_str(format!(in alloc; "open s{n} dbadmin\n")?.as_str())?;
+    }
+    let (status, out) = run(alloc, USUAL, script.as_bytes())?;
+    assert_eq!(rt; status, 2);
+    assert!(rt; out.contents().ends_with(b"s128 opened 128\nbad line 129\n"));
+    Ok(())
+}
+
+#[test]
+fn blames_the_input(rt: HostRuntime) -> Result<(), Fail> {
+    let alloc = rt.alloc();
+    let script = b"open a dbadmin\n".to_vec(alloc)?;
+    let mut input = FailingSource::new(script, vec![in alloc; 2]?);
+    let mut out = MemorySink::new(alloc);
+    let status = status_over(alloc, USUAL, &mut input, &mut out)?;
+    assert_eq!(rt; status, 3);
+    assert_eq!(rt; out.contents(), b"".as_slice());
+    assert_eq!(rt; input.faults(), 1);
+    Ok(())
+}
+
+#[test]
+fn blames_the_output(rt: HostRuntime) -> Result<(), Fail> {
+    let alloc = rt.alloc();
+    let script = b"open a dbadmin\n".to_vec(alloc)?;
+    let mut input = MemorySource::new(script);
+    let mut out = FailingSink::new(alloc, vec![in alloc; 1]?);
+    let status = status_over(alloc, USUAL, &mut input, &mut out)?;
+    assert_eq!(rt; status, 4);
+    assert_eq!(rt; out.faults(), 1);
+    Ok(())
+}
+
+/// A stream that fails at once.
+#[derive(Drop)]
+struct Broken;
+
+impl io::Read for Broken {
+    fn read(&mut self, _into: &mut [u8]) -> io::Result<usize> {
+        Err(io::Error::from(io::ErrorKind::BrokenPipe))
+    }
+}
+
+impl io::Write for Broken {
+    fn write(&mut self, _bytes: &[u8]) -> io::Result<usize> {
+        Err(io::Error::from(io::ErrorKind::BrokenPipe))
+    }
+
+    fn flush(&mut self) -> io::Result<()> {
+        Ok(())
+    }
+}
+
+#[test]
+fn adapts_a_reader(rt: HostRuntime) -> Result<(), Fail> {
+    let mut into = [0; 4];
+    let mut good = ReaderSource::new(b"ab".as_slice());
+    assert_eq!(rt; good.read(&mut into), Ok(2));
+    assert_eq!(rt; &into[..2], b"ab".as_slice());
+    assert_eq!(rt; good.read(&mut into), Ok(0));
+    assert_eq!(rt; good.faults(), 0);
+    let mut broken = ReaderSource::new(Broken);
+    assert_eq!(rt; broken.read(&mut into), Err(Outside::Failed));
+    assert_eq!(rt; broken.faults(), 1);
+    Ok(())
+}
+
+#[test]
+fn adapts_a_writer(rt: HostRuntime) -> Result<(), Fail> {
+    let mut good = WriterSink::new(Vec::new(rt.alloc()));
+    assert_eq!(rt; good.write(b"ab"), Ok(2));
+    assert_eq!(rt; good.faults(), 0);
+    let mut broken = WriterSink::new(Broken);
+    assert_eq!(rt; broken.write(b"ab"), Err(Outside::Failed));
+    assert_eq!(rt; broken.write(b""), Ok(0));
+    assert_eq!(rt; broken.faults(), 1);
+    Ok(())
+}
