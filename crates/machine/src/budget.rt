@@ -59,7 +59,8 @@ fn planned(definitions: &Definitions, row: &PoolRow) -> u32
     ensures least { 1 ≤ result }
 {
     let by_total = (total(definitions) / PLANNED_BYTES) as u32;
-    row.planned.unwrap_or(PLANNED_LEAST.max(definitions.cores.min(by_total)))
+    row.planned
+        .unwrap_or(PLANNED_LEAST.max(definitions.cores.min(by_total)))
 }
 
 /// GENERAL's total, or what the pool's MAXMEMORYSIZE leaves of it.
@@ -186,7 +187,12 @@ pub fn ask(definitions: &Definitions, pool: Name, user: Name, floor: u64) -> u64
 }
 
 /// The least cap, where the floor is above it.
-pub fn if_too_large(definitions: &Definitions, pool: Name, user: Name, floor: u64) -> Option<Refusal>
+pub fn if_too_large(
+    definitions: &Definitions,
+    pool: Name,
+    user: Name,
+    floor: u64,
+) -> Option<Refusal>
     requires { IsSound definitions.now }
     ensures { result ≡ if_too_large definitions.now (pool_row definitions.now pool) user floor }
 {

@@ -49,9 +49,11 @@ pub struct Machine {
 
 impl Model for Machine {
     ghost use Rattle.rm_rules.specs.State.{State};
+
     ghost Value = { State };
 
     ghost use Rattle.machine.specs.Capacity.{seen, HasCapacity};
+
     ghost view = { seen };
 
     ghost invariant = { HasCapacity };

@@ -4,7 +4,9 @@ ghost use Rattle.rm_base.specs.declared.limits.TheConstants.{SESSIONS_MOST};
 
 use super::Machine;
 use crate::budget::if_too_large;
-use crate::sessions::{is_idle, is_running, live_queries, runner_of, session_called, set_phase, take_runner};
+use crate::sessions::{
+    is_idle, is_running, live_queries, runner_of, session_called, set_phase, take_runner,
+};
 use crate::told::Told;
 use crate::users::{default_pool, usage, user_called};
 use rm_base::event::Event;
@@ -28,7 +30,11 @@ impl Machine {
     fn session_of(&self, seat: u32, number: u32) -> Option<Session>
         ensures { result ≡ session_of self.now seat number }
     {
-        session_called(&self.sessions, number).and_then(|x| if x.seat == seat { Some(x) } else { None })
+        session_called(&self.sessions, number).and_then(|x| if x.seat == seat {
+            Some(x)
+        } else {
+            None
+        })
     }
 
     /// The pool in which the session's next query would wait.
