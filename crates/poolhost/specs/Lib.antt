@@ -8,3 +8,6 @@ pub mod Transfers
 pub mod InputErrors
 pub mod SessionNames
 pub mod Script
+pub mod OptionsFacts
+pub mod Ended
+pub mod Scripts

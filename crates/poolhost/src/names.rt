@@ -19,8 +19,5 @@ pub struct Named {
 pub fn session_named(names: &[Named], name: Name) -> Option<u32>
     ensures { result ≡ session_named names.now name }
 {
-    names
-        .iter()
-        .find(|n| n.name.same(name))
-        .map(|n| n.session)
+    names.iter().find(|n| n.name.same(name)).map(|n| n.session)
 }

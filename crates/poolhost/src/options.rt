@@ -1,7 +1,8 @@
 //! The words of the command line of `script`.
 
-ghost use Rattle.std.specs.Prelude.{◌≡◌, map, string_bytes, Some, option_map};
+ghost use Rattle.std.specs.Prelude.{◌≡◌, map, string_bytes, Some, IfSome, option_map};
 ghost use Rattle.poolhost.specs.Numbers.{in_range};
+ghost use Rattle.poolhost.specs.OptionsFacts.{AreWithin};
 ghost use Rattle.poolhost.specs.Options.{unit_of, memory_of, cores_of, values_in, options_of};
 
 use crate::numbers::value_of;
@@ -18,6 +19,13 @@ pub struct Options {
 
 /// The options that the words of the command line give: exactly `script --memory V --cores N`.
 pub fn options_of(words: &[String]) -> Option<Options>
+    ensures options { result ≡ options_of (map string_bytes words.now) }
+    ensures within { IfSome result AreWithin }
+{
+    read_options(words)
+}
+
+fn read_options(words: &[String]) -> Option<Options>
     ensures { result ≡ options_of (map string_bytes words.now) }
 {
     let (memory, cores) = values_in(words)?;

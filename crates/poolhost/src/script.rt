@@ -108,7 +108,12 @@ impl Script {
     }
 
     /// Opens a session, and keeps its name if it was opened.
-    fn open_session(&mut self, alloc: Global, session: Name, user: Name) -> Result<Turned, AllocError>
+    fn open_session(
+        &mut self,
+        alloc: Global,
+        session: Name,
+        user: Name,
+    ) -> Result<Turned, AllocError>
         ensures { IfOk result (λ t. seen_turn t (seen self.new) ≡ opened_turn (seen self.old) session user) }
     {
         let answered = self.desk.apply(SEAT, Moment::of(0), &Event::Open { user });

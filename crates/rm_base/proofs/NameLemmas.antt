@@ -1,5 +1,5 @@
 -- What is kept of a text that is padded with zeros, and what is a name.
-use Rattle.std.specs.Prelude.{◌≡◌, ◌≢◌, ℕ, zero, suc, ◌-◌, ◌+◌, ◌≤◌, ◌<◌, Bool, true, false, ◌&&◌, ◌==◌, not, nat_le, List, [], ◌∷◌, ◌++◌, length, replicate, take, refl, Result, Ok, Err, MatchResult, IsOk}
+use Rattle.std.specs.Prelude.{◌≡◌, ℕ, zero, suc, ◌-◌, ◌+◌, ◌≤◌, ◌<◌, Bool, true, false, ◌&&◌, ◌==◌, not, nat_le, List, [], ◌∷◌, ◌++◌, length, replicate, take, refl, Result, Ok, Err, MatchResult, IsOk}
 use Rattle.std.specs.List.{list_all}
 use Rattle.std.specs.Char.{to_ascii_lowercase}
 use Rattle.std.specs.Str.{IsAscii, IsUtf8, str_to_ascii_lowercase}
@@ -77,12 +77,6 @@ IsNameText-from text h =
       free = not_true (is_reserved text) outer.1;
     }
 
--- no text above the greatest length is a name
-pub too_long : (text : List ℕ) → NAME_MOST < length text → is_name_text (str_to_ascii_lowercase text) ≡ true → ⊥
-too_long text h is =
-    let within = (IsNameText-from (str_to_ascii_lowercase text) is).within in
-    omega (arith, length-map text to_ascii_lowercase, within)
-
 -- a name's text, padded, is what a name keeps
 pub keeps_name-padded : (text : List ℕ) (n : ℕ) → is_name_text text ≡ true → length text + n ≡ NAME_MOST → keeps_name (text ++ replicate n 0) ≡ true
 keeps_name-padded text n is e =
@@ -121,17 +115,6 @@ take-text_in (b ∷ bs) = at (b == 0) refl (take-text_in bs)
     at : (ends : Bool) → (b == 0) ≡ ends → take (length (text_in bs)) bs ≡ text_in bs → take (length (text_in (b ∷ bs))) (b ∷ bs) ≡ text_in (b ∷ bs)
     at true e behind = rw e refl
     at false e behind = rw e (ap (λ r. b ∷ r) behind)
-
--- one byte more of a text
-pub length-text_in : (b : ℕ) (bs : List ℕ) → b ≢ 0 → length (text_in (b ∷ bs)) ≡ length (text_in bs) + 1
-length-text_in b bs differs =
-    let e : (b == 0) ≡ false = grind (arith, nat_tests) in
-    rw e (omega arith)
-
-pub length-text_in-zero : (b : ℕ) (bs : List ℕ) → b ≡ 0 → length (text_in (b ∷ bs)) ≡ 0
-length-text_in-zero b bs is =
-    let e : (b == 0) ≡ true = grind (arith, nat_tests) in
-    rw e refl
 
 zeros_are : (bs : List ℕ) → list_all (λ c. c == 0) bs ≡ true → bs ≡ replicate (length bs) 0
 zeros_are [] h = refl

@@ -1,5 +1,5 @@
 -- Which numbers of definitions a store keeps.
-use Rattle.std.specs.Prelude.{◌≡◌, ℕ, ◌≤◌, true}
+use Rattle.std.specs.Prelude.{◌≡◌, ◌≤◌, true}
 use Rattle.std.specs.List.{list_all}
 use Rattle.rm_base.specs.declared.limits.TheConstants.{MEMORY_LEAST, MEMORY_MOST, CORES_MOST, CHANGES_MOST}
 use Rattle.rm_base.specs.declared.definitions.Definitions.{Definitions}

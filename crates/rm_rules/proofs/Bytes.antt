@@ -1,14 +1,14 @@
 -- What a query that begins or ends to run does to use, debts and GENERAL's use.
-use Rattle.std.proofs.Common.{◌≡◌, ℕ, ◌+◌, ◌-◌, ◌≤◌, ◌<◌, Bool, true, false, ◌&&◌, ◌||◌, not, cond, List, [], ◌∷◌, ◌++◌, length, Some, None, Option, refl, sym, ap, ◌∙◌, subst, arith, sum_by, min, map}
-use Rattle.std.specs.List.{find, list_any, list_all, zip}
+use Rattle.std.proofs.Common.{◌≡◌, ℕ, ◌+◌, ◌-◌, ◌≤◌, Bool, true, false, not, cond, List, [], ◌∷◌, ◌++◌, Some, None, Option, refl, sym, ap, ◌∙◌, arith, sum_by, min, map}
+use Rattle.std.specs.List.{find, list_any, zip}
 use Rattle.std.proofs.lemmas.List.Sums.{sum_by-cons, sum_by_push}
 use Rattle.std.proofs.lemmas.Bool.{false≢true}
 use Rattle.rm_base.specs.declared.rows.PoolRow.{PoolRow}
 use Rattle.rm_base.specs.declared.name.Name.{Name}
 use Rattle.rm_base.specs.Name.{same_name, general}
-use Rattle.rm_base.proofs.Names.{same_name-refl, same_name-eq, same_name-sym}
+use Rattle.rm_base.proofs.Names.{same_name-eq, same_name-sym}
 use Rattle.rm_rules.specs.declared.state.Runner.{Runner}
-use Rattle.rm_rules.specs.Accounting.{grant_in, used, own, debt, unused}
+use Rattle.rm_rules.specs.Accounting.{grant_in, used, debt, unused}
 use Rattle.rm_rules.specs.Sound.{are_distinct, begins_with_general}
 use Rattle.rm_rules.specs.Definitions.{user_pools}
 use Rattle.rm_rules.proofs.Taken.{and_left, and_right, or_left_false, or_right_false, or_both_false, not_false}

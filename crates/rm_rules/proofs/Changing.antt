@@ -1,8 +1,7 @@
 -- What each event keeps.
-use Rattle.std.proofs.Common.{◌≡◌, ℕ, ◌+◌, ◌*◌, ◌≤◌, ◌<◌, Bool, true, false, not, cond, eqb, leb, ltb, List, [], ◌∷◌, ◌++◌, length, Some, None, Option, Result, Ok, Err, refl, sym, ap, ◌∙◌, subst, arith, sum, sum_by, count_by}
+use Rattle.std.proofs.Common.{◌≡◌, ℕ, ◌+◌, ◌*◌, ◌≤◌, ◌<◌, Bool, true, false, not, cond, eqb, leb, ltb, [], ◌∷◌, ◌++◌, length, Some, None, Option, Result, Ok, Err, refl, sym, ap, ◌∙◌, subst, arith, count_by}
 use Rattle.std.specs.Prelude.{option_and_then}
 use Rattle.std.specs.Option.{is_some}
-use Rattle.std.specs.List.{find, list_all}
 use Rattle.std.proofs.lemmas.List.Sums.{sum_by_push}
 use Rattle.std.proofs.lemmas.List.{length_push}
 use Rattle.std.proofs.lemmas.Bool.{eqb-true, eq-eqb, false≢true}
@@ -11,7 +10,6 @@ use Rattle.rm_base.specs.declared.limits.TheConstants.{SESSIONS_MOST, ENTRIES_A_
 use Rattle.rm_base.specs.declared.event.Event.{Event}
 use Rattle.rm_base.specs.declared.event.Event.TheVariants.{Open, Submit, Finish}
 use Rattle.rm_base.specs.declared.name.Name.{Name}
-use Rattle.rm_base.specs.declared.refusal.Refusal.{Refusal}
 use Rattle.rm_base.specs.Name.{general}
 use Rattle.rm_rules.specs.declared.state.Phase.{Phase}
 use Rattle.rm_rules.specs.declared.state.Phase.TheVariants as phase
@@ -19,18 +17,17 @@ use Rattle.rm_rules.specs.declared.state.Session.{Session}
 use Rattle.rm_rules.specs.declared.state.Waiter.{Waiter}
 use Rattle.rm_rules.specs.declared.state.Runner.{Runner}
 use Rattle.rm_rules.specs.Definitions.{user_called, pool_row, usage}
-use Rattle.rm_rules.specs.Budget.{is_too_large, too_large}
+use Rattle.rm_rules.specs.Budget.{is_too_large}
 use Rattle.rm_rules.specs.State.{State, session_called, session_of, if_opened_by, session_pool, phase_of, with_phase, without_runner, is_idle, is_waiting, is_running, live_queries, counted_entries}
-use Rattle.rm_rules.specs.Accounting.{used, grant_in, lent, reserves}
-use Rattle.rm_rules.specs.Change.{Change, change, opening, opened, new_session, submitting, submitting_to, submitted, new_waiter, finishing, finishing_with, finished, runner_of, is_journal_full}
+use Rattle.rm_rules.specs.Accounting.{used, grant_in, reserves}
+use Rattle.rm_rules.specs.Change.{Change, change, opening, opened, new_session, submitting, submitted, new_waiter, finishing, finishing_with, finished, runner_of, is_journal_full}
 use Rattle.rm_rules.specs.Sound.{has_pool}
 use Rattle.rm_base.specs.Ranges.{passes_if_set}
-use Rattle.rm_rules.specs.Healthy.{IsCovered, AreInPhase, HasRoom, one_if}
+use Rattle.rm_rules.specs.Healthy.{AreInPhase, one_if}
 use Rattle.rm_rules.proofs.Taken.{sum_without, length_without, found_passes, all_without, all_push, all_found}
 use Rattle.rm_rules.proofs.Phases.{phase_of-with_other, phase_of-with_same, length-with, live-with, phase_of-found, phase_of-push, live-push}
 use Rattle.rm_rules.proofs.Bytes.{debts-less}
 use Rattle.rm_rules.proofs.Known.{session_pool-known, chosen-with}
-use Rattle.rm_rules.proofs.Conserved.{granted-within}
 use Rattle.rm_rules.proofs.Moving.{AreKept}
 
 -- what is not refused

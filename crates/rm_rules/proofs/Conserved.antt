@@ -1,7 +1,7 @@
 -- The quantity is conserved in every state whose bytes are covered, and what is admitted is within its pool's cap.
-use Rattle.std.specs.Prelude.{◌≡◌, ℕ, ◌+◌, ◌-◌, ◌≤◌, Bool, true, false, ◌&&◌, ◌||◌, ◌==◌, nat_le, not, List, [], ◌∷◌, ◌++◌, Option, Some, None, find, length, min, sum, sum_by, refl, if◌then◌else◌}
+use Rattle.std.specs.Prelude.{◌≡◌, ℕ, ◌+◌, ◌-◌, ◌≤◌, Bool, true, false, ◌&&◌, ◌||◌, ◌==◌, nat_le, not, List, [], ◌∷◌, ◌++◌, Option, Some, None, find, length, min, sum, sum_by, refl}
 use Rattle.std.specs.List.{list_all, list_any}
-use Rattle.std.proofs.Common.{sym, ap, ◌∙◌, subst, true≢false, arith}
+use Rattle.std.proofs.Common.{sym, ap, ◌∙◌, subst, arith}
 use Rattle.std.proofs.lemmas.Bool.{and_parts, not-true, leb-true}
 use Rattle.std.proofs.lemmas.List.Sums.{sum_by-cons, sum_by_push}
 use Rattle.rm_base.specs.declared.entry.Account.{Account}
@@ -15,7 +15,7 @@ use Rattle.rm_rules.specs.Definitions.{user_pools, pool_row}
 use Rattle.rm_rules.specs.Budget.{threshold, cap}
 use Rattle.rm_rules.specs.State.{State}
 use Rattle.rm_rules.specs.Accounting.{grant_in, used, reserves, own, debt, unused, own_of, lent, account_behind, accounts_behind, accounts}
-use Rattle.rm_rules.specs.Admission.{poolfit, need, can_lend, ask_of, judged_for, heads, is_blocked, is_entitled, first_among, first_entitled, started, admitted}
+use Rattle.rm_rules.specs.Admission.{poolfit, need, can_lend, ask_of, first_entitled, started, admitted}
 use Rattle.rm_rules.specs.Sound.{IsSound, has_pool, are_distinct}
 use Rattle.rm_rules.specs.Healthy.{IsCovered}
 use Rattle.rm_rules.specs.Conserved.{granted, unused_reserves, own_in, from_general, actual_of, IsConserved}

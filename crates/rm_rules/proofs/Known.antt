@@ -1,5 +1,5 @@
 -- Every pool that a session may get is there.
-use Rattle.std.proofs.Common.{◌≡◌, ℕ, Bool, true, false, ◌&&◌, cond, List, [], ◌∷◌, ◌++◌, Some, None, Option, refl, sym, ap, ◌∙◌}
+use Rattle.std.proofs.Common.{◌≡◌, ℕ, true, false, cond, List, [], ◌∷◌, Some, None, Option, refl, ap}
 use Rattle.std.specs.Prelude.{unwrap_or, option_and_then, ◌==◌}
 use Rattle.std.specs.Option.{is_some}
 use Rattle.std.specs.List.{find, list_all}

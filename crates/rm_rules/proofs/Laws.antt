@@ -1,8 +1,6 @@
 -- The laws of the machine: every state is healthy, histories are legal and replay to their state, and the quantity is
 -- conserved after each entry.
-use Rattle.std.proofs.Common.{◌≡◌, ℕ, ◌+◌, ◌*◌, ◌≤◌, ◌<◌, Bool, true, false, not, cond, eqb, List, [], ◌∷◌, ◌++◌, length, Some, None, Option, Result, Ok, Err, refl, sym, ap, ◌∙◌, subst, arith, max, append_assoc, append-nil, inl, inr, sum, sum_by, count_by, map}
-use Rattle.std.specs.Prelude.{filter}
-use Rattle.std.specs.List.{list_all, zip}
+use Rattle.std.proofs.Common.{◌≡◌, ℕ, ◌+◌, ◌≤◌, Bool, true, false, not, cond, eqb, List, [], ◌∷◌, ◌++◌, length, Some, None, Option, Result, Ok, Err, refl, sym, ap, ◌∙◌, subst, arith, max, append_assoc, append-nil, inl, inr, sum, sum_by, map}
 use Rattle.std.proofs.lemmas.List.Sums.{sum_by_push, sum_by-cons}
 use Rattle.std.proofs.lemmas.List.{length_push}
 use Rattle.std.proofs.lemmas.Bool.{false≢true, eq-eqb}
@@ -12,10 +10,8 @@ use Rattle.rm_base.specs.declared.event.Event.{Event}
 use Rattle.rm_base.specs.declared.event.Event.TheVariants.{Open, Submit, Finish}
 use Rattle.rm_base.specs.declared.refusal.Refusal.{Refusal}
 use Rattle.rm_base.specs.declared.refusal.Refusal.TheVariants as refusal
-use Rattle.rm_base.specs.declared.reply.Reply.{Reply}
 use Rattle.rm_base.specs.declared.reply.Reply.TheVariants as reply
 use Rattle.rm_base.specs.declared.rows.PoolRow.{PoolRow}
-use Rattle.rm_base.specs.Name.{general}
 use Rattle.rm_base.specs.Definitions.{fresh}
 use Rattle.rm_base.specs.Ranges.{is_between}
 use Rattle.rm_base.specs.declared.limits.TheConstants.{MEMORY_LEAST, MEMORY_MOST, CORES_MOST}
@@ -25,14 +21,14 @@ use Rattle.rm_rules.specs.declared.state.Phase.TheVariants as phase
 use Rattle.rm_rules.specs.declared.state.Session.{Session}
 use Rattle.rm_rules.specs.declared.state.Waiter.{Waiter}
 use Rattle.rm_rules.specs.declared.state.Runner.{Runner}
-use Rattle.rm_rules.specs.Definitions.{total, reserved, user_pools}
+use Rattle.rm_rules.specs.Definitions.{user_pools}
 use Rattle.rm_rules.specs.State.{State, start, session_of, session_called, without_runner, is_defined, is_definition, counted_entries}
-use Rattle.rm_rules.specs.Accounting.{used, own, debt, lent, free, reserves}
-use Rattle.rm_rules.specs.Admission.{admitted, first_entitled, repeated, settled, started}
-use Rattle.rm_rules.specs.Change.{Answer, Says, Tells, Change, change, told, told_in_phase, told_running, told_waiting, runner_of, waiter_of, reply_of}
-use Rattle.rm_rules.specs.Step.{Outcome, noted, recorded, accepted, outcome, moved_to, step, made, replay, IsLegal, own_entries, is_define, FromFirst}
-use Rattle.rm_rules.specs.Sound.{IsSound, has_pool, begins_with_general}
-use Rattle.rm_rules.specs.Healthy.{IsCovered, AreInPhase, HasRoom, IsHealthy}
+use Rattle.rm_rules.specs.Accounting.{debt, reserves}
+use Rattle.rm_rules.specs.Admission.{settled, started}
+use Rattle.rm_rules.specs.Change.{Change, change, told, told_in_phase, told_running, told_waiting, runner_of, waiter_of, reply_of}
+use Rattle.rm_rules.specs.Step.{Outcome, noted, recorded, outcome, moved_to, step, made, replay, IsLegal, own_entries, is_define, FromFirst}
+use Rattle.rm_rules.specs.Sound.{IsSound, begins_with_general}
+use Rattle.rm_rules.specs.Healthy.{IsHealthy}
 use Rattle.rm_rules.specs.Conserved.{IsConserved, KeepsGrants, ConservedAfterEach}
 use Rattle.rm_rules.proofs.Moving.{AreKept, kept-settled, journal-settled, clock-settled, repeated-keeps}
 use Rattle.rm_rules.proofs.Changing.{kept-changed, journal-changed, clock-changed, opening-ok, submitting-ok, finishing-ok, session_of-number}

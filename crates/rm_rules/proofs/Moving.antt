@@ -1,26 +1,23 @@
 -- What admission keeps.
-use Rattle.std.proofs.Common.{◌≡◌, ℕ, zero, suc, ◌+◌, ◌-◌, ◌*◌, ◌≤◌, ◌<◌, Bool, true, false, ◌&&◌, ◌||◌, not, cond, eqb, leb, List, [], ◌∷◌, ◌++◌, length, Some, None, Option, refl, sym, ap, ◌∙◌, subst, arith, sum, sum_by, count_by, min, map}
-use Rattle.std.specs.Option.{is_some}
-use Rattle.std.specs.List.{find, list_any, list_all, zip}
-use Rattle.std.proofs.lemmas.List.Sums.{sum_by-cons, sum_by_push}
+use Rattle.std.proofs.Common.{◌≡◌, ℕ, zero, suc, ◌+◌, ◌≤◌, Bool, true, false, ◌&&◌, ◌||◌, not, cond, eqb, leb, List, [], ◌∷◌, ◌++◌, length, Some, None, Option, refl, sym, ap, ◌∙◌, subst, arith, sum, count_by}
+use Rattle.std.specs.List.{find, list_all}
+use Rattle.std.proofs.lemmas.List.Sums.{sum_by_push}
 use Rattle.std.proofs.lemmas.List.{length_push}
 use Rattle.std.proofs.lemmas.Bool.{eqb-true, eq-eqb, false≢true}
 use Rattle.std.proofs.lemmas.Bool.Decides.{nat_tests}
-use Rattle.rm_base.specs.Name.{same_name, general}
+use Rattle.rm_base.specs.Name.{general}
 use Rattle.rm_rules.specs.declared.state.Phase.{Phase}
 use Rattle.rm_rules.specs.declared.state.Phase.TheVariants as phase
-use Rattle.rm_rules.specs.declared.state.Session.{Session}
 use Rattle.rm_rules.specs.declared.state.Waiter.{Waiter}
 use Rattle.rm_rules.specs.declared.state.Runner.{Runner}
-use Rattle.rm_rules.specs.Definitions.{user_pools, total}
-use Rattle.rm_rules.specs.State.{State, session_called, phase_of, with_phase, without_waiter, without_runner, is_idle, is_waiting, is_running, live_queries, counted_entries}
-use Rattle.rm_rules.specs.Accounting.{used, debt, unused, unused_of, reserves, reserve_of, lent, free, general_size}
-use Rattle.rm_rules.specs.Admission.{ask_of, need, poolfit, can_lend, judged_for, started, admitted, first_entitled, repeated, settled}
+use Rattle.rm_rules.specs.Definitions.{user_pools}
+use Rattle.rm_rules.specs.State.{State, phase_of, with_phase, without_waiter, is_idle, is_waiting, is_running, live_queries}
+use Rattle.rm_rules.specs.Accounting.{reserves, lent, free}
+use Rattle.rm_rules.specs.Admission.{ask_of, need, poolfit, judged_for, started, admitted, first_entitled, repeated, settled}
 use Rattle.rm_rules.specs.Sound.{IsSound, has_pool}
-use Rattle.rm_base.specs.Ranges.{passes_if_set}
-use Rattle.rm_rules.specs.Healthy.{IsCovered, AreInPhase, HasRoom, IsHealthy, one_if}
-use Rattle.rm_rules.proofs.Taken.{sum_without, length_without, found_passes, found_counted, all_without, all_push, all_among, counted_among, and_left, and_right}
-use Rattle.rm_rules.proofs.Phases.{phase_of-with_other, phase_of-with_same, length-with, live-with, open_if_live, phase_of-found}
+use Rattle.rm_rules.specs.Healthy.{IsCovered, AreInPhase, HasRoom, one_if}
+use Rattle.rm_rules.proofs.Taken.{sum_without, length_without, found_passes, found_counted, all_without, all_push, all_among, counted_among}
+use Rattle.rm_rules.proofs.Phases.{phase_of-with_other, phase_of-with_same, length-with, live-with, open_if_live}
 use Rattle.rm_rules.proofs.Bytes.{apart-zip, absent-zip, general-absent, user_pools-distinct, lent-push}
 use Rattle.rm_rules.proofs.Known.{chosen-with}
 use Rattle.rm_rules.proofs.Queue.{IsAmong, first_entitled_fits}

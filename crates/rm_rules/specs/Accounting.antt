@@ -1,5 +1,5 @@
 -- Use, own bytes, debts, free bytes and accounts.
-use Rattle.std.specs.Prelude.{ℕ, ◌+◌, ◌-◌, Bool, ◌==◌, List, [], ◌∷◌, ◌++◌, Option, Some, None, find, map, sum, sum_by, min, if◌then◌else◌}
+use Rattle.std.specs.Prelude.{ℕ, ◌+◌, ◌-◌, List, [], ◌∷◌, ◌++◌, Option, Some, None, find, sum, sum_by, min, if◌then◌else◌}
 use Rattle.std.specs.List.{zip}
 use Rattle.rm_base.specs.declared.rows.PoolRow.{PoolRow}
 use Rattle.rm_base.specs.declared.entry.Account.{Account}

@@ -1,5 +1,5 @@
 -- Queueing thresholds, query budgets, reachable caps and asks.
-use Rattle.std.specs.Prelude.{ℕ, ◌+◌, ◌-◌, ◌*◌, ◌/◌, Bool, ◌==◌, nat_lt, Option, Some, None, Result, Ok, Err, unwrap_or, min, max, if◌then◌else◌}
+use Rattle.std.specs.Prelude.{ℕ, ◌+◌, ◌-◌, ◌*◌, ◌/◌, Bool, ◌==◌, nat_lt, Option, Some, None, unwrap_or, min, max, if◌then◌else◌}
 use Rattle.rm_base.specs.declared.definitions.Definitions.{Definitions}
 use Rattle.rm_base.specs.declared.rows.PoolRow.{PoolRow}
 use Rattle.rm_base.specs.declared.name.Name.{Name}
@@ -9,7 +9,7 @@ use Rattle.rm_base.specs.declared.refusal.Refusal.{Refusal}
 use Rattle.rm_base.specs.declared.refusal.Refusal.TheVariants.{TooLarge}
 use Rattle.rm_base.specs.Name.{same_name, general}
 use Rattle.rm_rules.specs.declared.state.Cap.{Cap}
-use Rattle.rm_rules.specs.Definitions.{total, reserved, planned, pool_row, memory_cap}
+use Rattle.rm_rules.specs.Definitions.{total, reserved, planned, memory_cap}
 
 -- 95 percent of the pool's MAXMEMORYSIZE; for GENERAL, and where it is NONE, of the total
 abbrev pub threshold : Definitions → PoolRow → ℕ

@@ -1,5 +1,5 @@
 -- What the definitions say: the total, the pools, the users, USAGE and default pools.
-use Rattle.std.specs.Prelude.{ℕ, ◌+◌, ◌*◌, ◌/◌, ◌^◌, Bool, true, false, ◌&&◌, ◌||◌, List, [], ◌∷◌, Option, Some, None, unwrap_or, option_and_then, find, sum_by, min, max, if◌then◌else◌, is_some}
+use Rattle.std.specs.Prelude.{ℕ, ◌*◌, ◌/◌, ◌^◌, Bool, false, ◌&&◌, ◌||◌, List, [], ◌∷◌, Option, Some, None, unwrap_or, option_and_then, find, sum_by, min, max, if◌then◌else◌}
 use Rattle.std.specs.List.{list_any}
 use Rattle.rm_base.specs.declared.definitions.Definitions.{Definitions}
 use Rattle.rm_base.specs.declared.rows.PoolRow.{PoolRow}

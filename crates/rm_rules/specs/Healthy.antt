@@ -1,5 +1,5 @@
 -- What every state of the machine keeps.
-use Rattle.std.specs.Prelude.{◌≡◌, ℕ, ◌+◌, ◌*◌, ◌<◌, ◌≤◌, Bool, true, false, ◌==◌, List, [], ◌∷◌, length, sum, sum_by, count_by, if◌then◌else◌}
+use Rattle.std.specs.Prelude.{◌≡◌, ℕ, ◌+◌, ◌*◌, ◌<◌, ◌≤◌, Bool, true, ◌==◌, length, sum, sum_by, count_by, if◌then◌else◌}
 use Rattle.std.specs.List.{list_all}
 use Rattle.rm_base.specs.declared.limits.TheConstants.{SESSIONS_MOST, ENTRIES_A_QUERY, ENTRIES_A_SESSION}
 use Rattle.rm_rules.specs.Definitions.{total, user_pools}

@@ -1,11 +1,9 @@
 -- When definitions are sound.
-use Rattle.std.specs.Prelude.{◌≡◌, ℕ, ◌+◌, ◌-◌, ◌*◌, ◌≤◌, zero, suc, Bool, true, false, ◌&&◌, ◌||◌, ◌==◌, nat_le, nat_lt, not, List, [], ◌∷◌, ◌++◌, Option, Some, None, is_some, length, map, pos, negsuc, ℤ, if◌then◌else◌}
+use Rattle.std.specs.Prelude.{◌≡◌, ℕ, ◌-◌, ◌*◌, ◌≤◌, zero, suc, Bool, true, false, ◌&&◌, ◌==◌, nat_le, not, List, [], ◌∷◌, ◌++◌, Option, Some, None, is_some, length, map}
 use Rattle.std.specs.List.{list_all, list_any}
-use Rattle.rm_base.specs.declared.limits.TheConstants.{MEMORY_LEAST, MEMORY_MOST, TOTAL_LEAST, CORES_MOST, POOLS_MOST, USERS_MOST, ROLES_MOST, GRANTS_MOST, CHANGES_MOST, CONCURRENCY_MOST, THRESHOLD_SECONDS_MOST, SPAN_MOST, CHAIN_MOST}
+use Rattle.rm_base.specs.declared.limits.TheConstants.{MEMORY_LEAST, MEMORY_MOST, TOTAL_LEAST, CORES_MOST, POOLS_MOST, USERS_MOST, ROLES_MOST, GRANTS_MOST, CHANGES_MOST, CHAIN_MOST}
 use Rattle.rm_base.specs.declared.definitions.Definitions.{Definitions}
 use Rattle.rm_base.specs.declared.rows.PoolRow.{PoolRow}
-use Rattle.rm_base.specs.declared.rows.UserRow.{UserRow}
-use Rattle.rm_base.specs.declared.rows.RoleRow.{RoleRow}
 use Rattle.rm_base.specs.declared.rows.GrantRow.{GrantRow}
 use Rattle.rm_base.specs.declared.rows.GrantRow.TheVariants.{PoolToUser, PoolToRole, RoleToUser}
 use Rattle.rm_base.specs.declared.name.Name.{Name}

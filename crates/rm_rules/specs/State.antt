@@ -1,10 +1,9 @@
 -- The state of the pool machine.
-use Rattle.std.specs.Prelude.{ℕ, Bool, ◌&&◌, ◌||◌, ◌==◌, ◌∷◌, ◌++◌, List, [], Option, Some, None, option_and_then, find, map, true, false, if◌then◌else◌, not, count_by, length}
+use Rattle.std.specs.Prelude.{ℕ, Bool, ◌==◌, ◌∷◌, List, [], Option, Some, None, option_and_then, find, map, true, false, if◌then◌else◌, not, count_by}
 use Rattle.rm_base.specs.declared.definitions.Definitions.{Definitions}
 use Rattle.rm_base.specs.declared.entry.EndCounts.{EndCounts}
 use Rattle.rm_base.specs.declared.entry.MoveSeen.{MoveSeen}
 use Rattle.rm_base.specs.declared.entry.Entry.{Entry}
-use Rattle.rm_base.specs.declared.rows.PoolRow.{PoolRow}
 use Rattle.rm_base.specs.declared.name.Name.{Name}
 use Rattle.rm_base.specs.declared.reply.Reply.{Reply}
 use Rattle.rm_base.specs.declared.reply.Reply.TheVariants.{Defined}

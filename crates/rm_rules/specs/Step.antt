@@ -1,13 +1,12 @@
 -- One event of the pool machine, and histories of events.
-use Rattle.std.specs.Prelude.{◌≡◌, ℕ, Bool, true, false, ◌==◌, List, [], ◌∷◌, ◌++◌, Result, Ok, Err, length, max, filter, if◌then◌else◌}
-use Rattle.rm_base.specs.declared.definitions.Definitions.{Definitions}
+use Rattle.std.specs.Prelude.{◌≡◌, ℕ, Bool, true, false, ◌==◌, List, [], ◌∷◌, ◌++◌, Result, Ok, Err, max, filter, if◌then◌else◌}
 use Rattle.rm_base.specs.declared.entry.Entry.{Entry}
 use Rattle.rm_base.specs.declared.event.Event.{Event}
 use Rattle.rm_base.specs.declared.event.Event.TheVariants.{Open, Submit, Finish}
 use Rattle.rm_base.specs.declared.refusal.Refusal.{Refusal}
 use Rattle.rm_base.specs.declared.reply.Reply.{Reply}
 use Rattle.rm_base.specs.declared.reply.Reply.TheVariants as reply
-use Rattle.rm_rules.specs.State.{State, start}
+use Rattle.rm_rules.specs.State.{State}
 use Rattle.rm_rules.specs.Admission.{settled}
 use Rattle.rm_rules.specs.Change.{Change, change, reply_of}
 

@@ -1,4 +1,4 @@
-use Rattle.std.specs.Prelude.{◌≡◌, length, take}
+use Rattle.std.specs.Prelude.{◌≡◌, take}
 use Rattle.std.specs.Str.{IsUtf8}
 use Rattle.std.proofs.Common.{sym, ap, ◌∙◌, subst}
 use Rattle.std.proofs.lemmas.Result.{MatchResult-at_ok}

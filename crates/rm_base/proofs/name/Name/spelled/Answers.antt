@@ -1,7 +1,6 @@
-use Rattle.std.specs.Prelude.{◌≡◌, ◌≤◌, true, length, take}
+use Rattle.std.specs.Prelude.{◌≤◌, length}
 use Rattle.std.specs.Str.{str_to_ascii_lowercase}
 use Rattle.std.proofs.Common.{sym, ap, ◌∙◌, arith}
-use Rattle.rm_base.specs.NameText.{is_name_text}
 use Rattle.rm_base.proofs.NameLemmas.{keeps_name-folded, text_in-folded, is_name_text-folded}
 use Rattle.rm_base.proofs.name.Name.spelled.Goals as goal
 

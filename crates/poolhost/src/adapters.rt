@@ -1,0 +1,94 @@
+//! The streams of the system, as the host's source and sink. They count each failure, and tell nothing of what a stream
+//! holds.
+
+use rm_outside::outside::Outside;
+use rm_outside::sink::Sink;
+use rm_outside::source::Source;
+use std::io::{ErrorKind, Read, Write};
+
+/// A reader as a source. A read that was interrupted is tried again.
+#[derive(Drop)]
+pub struct ReaderSource<R: Read + Drop> {
+    reader: R,
+    faults: u64,
+}
+
+impl<R: Read + Drop> ReaderSource<R> {
+    pub fn new(reader: R) -> ReaderSource<R> {
+        ReaderSource { reader, faults: 0 }
+    }
+}
+
+impl<R: Read + Drop> Source for ReaderSource<R> {
+    ghost use Rattle.std.specs.Prelude.{None};
+
+    ghost faults = { λ s. s.faults };
+
+    ghost left = { λ _. None };
+
+    fn faults(&self) -> u64 {
+        self.faults
+    }
+
+    fn read(&mut self, into: &mut [u8]) -> Result<usize, Outside> {
+        if into.is_empty() {
+            return Ok(0);
+        }
+        for _ in 0..u64::MAX {
+            match self.reader.read(into) {
+                Ok(count) => return Ok(count),
+                Err(error) => {
+                    if error.kind() != ErrorKind::Interrupted {
+                        break;
+                    }
+                }
+            }
+        }
+        self.faults = self.faults.saturating_add(1);
+        Err(Outside::Failed)
+    }
+}
+
+/// A writer as a sink. A write that was interrupted is tried again, and one that takes nothing is a failure.
+#[derive(Drop)]
+pub struct WriterSink<W: Write + Drop> {
+    writer: W,
+    faults: u64,
+}
+
+impl<W: Write + Drop> WriterSink<W> {
+    pub fn new(writer: W) -> WriterSink<W> {
+        WriterSink { writer, faults: 0 }
+    }
+}
+
+impl<W: Write + Drop> Sink for WriterSink<W> {
+    ghost use Rattle.std.specs.Prelude.{None};
+
+    ghost faults = { λ s. s.faults };
+
+    ghost written = { λ _. None };
+
+    fn faults(&self) -> u64 {
+        self.faults
+    }
+
+    fn write(&mut self, bytes: &[u8]) -> Result<usize, Outside> {
+        if bytes.is_empty() {
+            return Ok(0);
+        }
+        for _ in 0..u64::MAX {
+            match self.writer.write(bytes) {
+                Ok(0) => break,
+                Ok(count) => return Ok(count),
+                Err(error) => {
+                    if error.kind() != ErrorKind::Interrupted {
+                        break;
+                    }
+                }
+            }
+        }
+        self.faults = self.faults.saturating_add(1);
+        Err(Outside::Failed)
+    }
+}
