@@ -67,7 +67,8 @@ fn planned(definitions: &Definitions, row: &PoolRow) -> u32
 fn reach(definitions: &Definitions, row: &PoolRow) -> u64
     requires sound { IsSound definitions.now }
     requires in_range { is_pool_in_range row.now ≡ true }
-    ensures value { result ≡ (if same_name row.now.name general then total definitions.now else unwrap_or row.now.max (total definitions.now)) }
+    ensures value { let most = total definitions.now in
+        result ≡ (if same_name row.now.name general then most else unwrap_or row.now.max most) }
     ensures most { result ≤ MEMORY_MOST }
 {
     let total = total(definitions);
