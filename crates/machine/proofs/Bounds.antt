@@ -1,15 +1,15 @@
 -- How large what sound definitions say can be.
-use Rattle.std.proofs.Common.{◌≡◌, ◌≤◌, ◌<◌, ℕ, ◌+◌, ◌*◌, ◌/◌, Bool, true, false, ◌&&◌, List, [], ◌∷◌, Option, Some, None, unwrap_or, find, refl, arith, rules, cond, nat_le, max, min, ◌^◌}
+use Rattle.std.proofs.Common.{◌≡◌, ◌≤◌, ℕ, ◌/◌, Bool, true, false, ◌&&◌, List, [], ◌∷◌, Option, Some, None, unwrap_or, refl, arith, cond, nat_le, max, min, ◌^◌}
 use Rattle.std.specs.List.{list_all}
 use Rattle.std.proofs.lemmas.Bool.Decides.{nat_tests}
 use Rattle.std.proofs.lemmas.Bool.{false≢true}
-use Rattle.rm_base.specs.declared.limits.TheConstants.{MEMORY_MOST, SPAN_MOST, THRESHOLD_SECONDS_MOST, CONCURRENCY_MOST}
+use Rattle.rm_base.specs.declared.limits.TheConstants.{MEMORY_MOST, SPAN_MOST, THRESHOLD_SECONDS_MOST}
 use Rattle.rm_base.specs.declared.definitions.Definitions.{Definitions}
 use Rattle.rm_base.specs.declared.rows.PoolRow.{PoolRow}
 use Rattle.rm_base.specs.declared.name.Name.{Name}
 use Rattle.rm_base.specs.Name.{same_name}
 use Rattle.rm_base.specs.Definitions.{default_pool_row}
-use Rattle.rm_rules.specs.Definitions.{total, reserved, planned, pool_row, pool_called}
+use Rattle.rm_rules.specs.Definitions.{total, planned, pool_row, pool_called}
 use Rattle.rm_base.specs.Ranges.{is_pool_in_range, is_between, passes_if_set, is_priority}
 use Rattle.rm_rules.specs.Sound.{IsSound}
 

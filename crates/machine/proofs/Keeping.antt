@@ -1,7 +1,6 @@
 -- What a desk keeps, at its beginning and after each event.
-use Rattle.std.proofs.Common.{◌≡◌, ℕ, Result, Ok, Err, List, length, refl, sym, ap, ◌∙◌, subst}
+use Rattle.std.proofs.Common.{◌≡◌, ℕ, Result, Ok, Err, length, refl, sym, ap, ◌∙◌, subst}
 use Rattle.rm_base.specs.declared.definitions.Definitions.{Definitions}
-use Rattle.rm_base.specs.declared.entry.Entry.{Entry}
 use Rattle.rm_base.specs.declared.event.Event.{Event}
 use Rattle.rm_base.specs.declared.event.Event.TheVariants.{Open, Submit, Finish}
 use Rattle.rm_base.specs.declared.refusal.Refusal.{Refusal}
@@ -10,7 +9,6 @@ use Rattle.rm_rules.specs.Admission.{settled}
 use Rattle.rm_rules.specs.Change.{Change, change}
 use Rattle.rm_rules.specs.Step.{outcome, moved_to, step, replay, IsLegal}
 use Rattle.rm_rules.specs.Sound.{IsSound}
-use Rattle.rm_rules.specs.Healthy.{IsHealthy}
 use Rattle.rm_rules.proofs.Moving.{repeated-keeps}
 use Rattle.rm_rules.proofs.Changing.{opening-ok, submitting-ok, finishing-ok}
 use Rattle.rm_rules.proofs.Laws.{healthy-start, healthy-step, legal-step, replay-step}

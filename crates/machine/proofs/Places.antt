@@ -1,7 +1,6 @@
 -- The first place in a list at which a test passes, and what is done there.
-use Rattle.std.proofs.Common.{◌≡◌, ◌≤◌, ◌<◌, ℕ, ◌+◌, suc, Bool, true, false, cond, not, ltb, nat_eq, Option, Some, None, List, [], ◌∷◌, ◌++◌, length, get_or, take, drop, refl, ap, ◌∙◌, sym, arith, rules, remove, position, set}
+use Rattle.std.proofs.Common.{◌≡◌, ◌≤◌, ◌<◌, ℕ, ◌+◌, suc, Bool, true, false, cond, not, ltb, nat_eq, Option, Some, None, List, [], ◌∷◌, length, get_or, refl, ap, ◌∙◌, arith, remove, position, set}
 use Rattle.std.specs.List.{position_or_len}
-use Rattle.std.proofs.lemmas.Bool.{false≢true}
 use Rattle.std.proofs.lemmas.Bool.Decides.{nat_tests}
 use Rattle.rm_rules.specs.State.{without, with_phase}
 use Rattle.rm_rules.specs.declared.state.Session.{Session}

@@ -1,5 +1,5 @@
 -- The journal has room for the entry of an accepted event.
-use Rattle.std.proofs.Common.{◌≡◌, ◌<◌, ◌≤◌, ◌+◌, length, sym, subst, arith}
+use Rattle.std.proofs.Common.{◌≡◌, ◌<◌, ◌+◌, length, sym, subst, arith}
 use Rattle.rm_base.specs.declared.limits.TheConstants.{CHANGES_MOST}
 use Rattle.rm_rules.specs.State.{State, counted_entries}
 use Rattle.rm_rules.specs.Admission.{settled}

@@ -1,12 +1,12 @@
 -- The loop that admits.
-use Rattle.std.proofs.Common.{◌≡◌, ◌<◌, ◌≤◌, ℕ, ◌+◌, zero, suc, Bool, true, eqb, Option, Some, None, List, [], ◌∷◌, ◌++◌, length, refl, ap, ◌∙◌, sym, subst, arith, count_by, not}
+use Rattle.std.proofs.Common.{◌≡◌, ◌<◌, ◌≤◌, ℕ, ◌+◌, zero, suc, eqb, Option, Some, None, List, length, refl, ap, ◌∙◌, sym, subst, arith, count_by, not}
 use Rattle.std.specs.List.{find}
 use Rattle.std.proofs.lemmas.Bool.{eq-eqb}
 use Rattle.std.proofs.lemmas.List.Sums.{count_by-le-length}
 use Rattle.rm_base.specs.declared.limits.TheConstants.{SESSIONS_MOST}
 use Rattle.rm_rules.specs.declared.state.Waiter.{Waiter}
 use Rattle.rm_rules.specs.declared.state.Session.{Session}
-use Rattle.rm_rules.specs.State.{State, without_waiter, is_idle}
+use Rattle.rm_rules.specs.State.{State, is_idle}
 use Rattle.rm_rules.specs.Admission.{first_entitled, admitted, repeated, settled}
 use Rattle.rm_rules.specs.Sound.{IsSound}
 use Rattle.rm_rules.specs.Healthy.{IsCovered, AreInPhase}

@@ -6,11 +6,15 @@ use Rattle.rm_rules.specs.State.{State}
 use Rattle.rm_rules.specs.Accounting.{account_behind}
 use Rattle.machine.specs.declared.told.Told.{Told}
 use Rattle.machine.specs.declared.told.Told.TheVariants as told
-use Rattle.rm_rules.specs.Change.{Answer, Says, Tells}
+use Rattle.rm_rules.specs.Change.{Answer, Says, Tells, Change}
 
 abbrev pub answer_of : Told → Answer
 answer_of (told.Says reply) = Says reply
 answer_of (told.Tells session) = Tells session
+
+-- the change to this state, with this answer
+abbrev pub change_to : State → Told → Change
+change_to s told = record { state = s; answer = answer_of told }
 
 -- the account of a session's running query
 abbrev pub account_of : State → ℕ → Runner → Account

@@ -19,5 +19,6 @@ user_refusal s x pool =
 -- the floor is above the least cap, or the journal has no room
 abbrev pub size_refusal : State → Session → Name → ℕ → Option Refusal
 size_refusal s x pool floor =
-    if is_too_large s.definitions (pool_row s.definitions pool) x.user floor then Some (too_large s.definitions (pool_row s.definitions pool) x.user floor)
+    let row = pool_row s.definitions pool in
+    if is_too_large s.definitions row x.user floor then Some (too_large s.definitions row x.user floor)
     else (if is_journal_full s (live_queries s.sessions + 1) (length s.sessions) then Some (refusal.JournalFull s.room) else None)

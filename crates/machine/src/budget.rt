@@ -59,14 +59,16 @@ fn planned(definitions: &Definitions, row: &PoolRow) -> u32
     ensures least { 1 ≤ result }
 {
     let by_total = (total(definitions) / PLANNED_BYTES) as u32;
-    row.planned.unwrap_or(PLANNED_LEAST.max(definitions.cores.min(by_total)))
+    row.planned
+        .unwrap_or(PLANNED_LEAST.max(definitions.cores.min(by_total)))
 }
 
 /// GENERAL's total, or what the pool's MAXMEMORYSIZE leaves of it.
 fn reach(definitions: &Definitions, row: &PoolRow) -> u64
     requires sound { IsSound definitions.now }
     requires in_range { is_pool_in_range row.now ≡ true }
-    ensures value { result ≡ (if same_name row.now.name general then total definitions.now else unwrap_or row.now.max (total definitions.now)) }
+    ensures value { let most = total definitions.now in
+        result ≡ (if same_name row.now.name general then most else unwrap_or row.now.max most) }
     ensures most { result ≤ MEMORY_MOST }
 {
     let total = total(definitions);
@@ -186,7 +188,12 @@ pub fn ask(definitions: &Definitions, pool: Name, user: Name, floor: u64) -> u64
 }
 
 /// The least cap, where the floor is above it.
-pub fn if_too_large(definitions: &Definitions, pool: Name, user: Name, floor: u64) -> Option<Refusal>
+pub fn if_too_large(
+    definitions: &Definitions,
+    pool: Name,
+    user: Name,
+    floor: u64,
+) -> Option<Refusal>
     requires { IsSound definitions.now }
     ensures { result ≡ if_too_large definitions.now (pool_row definitions.now pool) user floor }
 {

@@ -18,6 +18,7 @@ pub struct Desk {
 
 impl Model for Desk {
     ghost use Rattle.machine.specs.Desk.{DeskState, IsKept};
+
     ghost Value = { DeskState };
 
     ghost view = { λ d. record { first = d.first; state = d.machine } };
@@ -72,3 +73,6 @@ impl Desk {
         self.machine.definitions()
     }
 }
+
+#[cfg(test)]
+mod tests;

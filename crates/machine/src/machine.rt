@@ -49,9 +49,11 @@ pub struct Machine {
 
 impl Model for Machine {
     ghost use Rattle.rm_rules.specs.State.{State};
+
     ghost Value = { State };
 
     ghost use Rattle.machine.specs.Capacity.{seen, HasCapacity};
+
     ghost view = { seen };
 
     ghost invariant = { HasCapacity };
@@ -187,7 +189,8 @@ impl Machine {
         requires covered { IsCovered self.old }
         requires in_phase { AreInPhase self.old }
         requires room { HasRoom 1 self.old }
-        ensures state { self.new ≡ (accepted seat event.now (settled self.old) (reply_of (settled self.old) (answer_of told))).state }
+        ensures state { let s = settled self.old in
+            self.new ≡ (accepted seat event.now s (reply_of s (answer_of told))).state }
         ensures reply { result.reply ≡ reply_of (settled self.old) (answer_of told) }
         ensures entry { result.entry ≡ true }
         ensures place { result.place ≡ length self.new.journal }

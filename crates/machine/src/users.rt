@@ -82,8 +82,7 @@ fn is_dbadmin(name: Name) -> bool
 pub fn usage(definitions: &Definitions, user: Name, pool: Name) -> bool
     ensures { result ≡ usage definitions.now user pool }
 {
-    is_general(pool)
-        || (is_dbadmin(user) || is_granted(definitions.grants.rows(), user, pool))
+    is_general(pool) || (is_dbadmin(user) || is_granted(definitions.grants.rows(), user, pool))
 }
 
 /// The pool of a role, where the grant makes the user a member of it.

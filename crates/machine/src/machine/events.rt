@@ -4,7 +4,9 @@ ghost use Rattle.rm_base.specs.declared.limits.TheConstants.{SESSIONS_MOST};
 
 use super::Machine;
 use crate::budget::if_too_large;
-use crate::sessions::{is_idle, is_running, live_queries, runner_of, session_called, set_phase, take_runner};
+use crate::sessions::{
+    is_idle, is_running, live_queries, runner_of, session_called, set_phase, take_runner,
+};
 use crate::told::Told;
 use crate::users::{default_pool, usage, user_called};
 use rm_base::event::Event;
@@ -22,13 +24,17 @@ impl Machine {
     ghost use Rattle.rm_rules.specs.Change.{is_journal_full, opening, submitted, submitting_to, submitting, finishing, change};
     ghost use Rattle.machine.specs.Refusals.{user_refusal, size_refusal};
     ghost use Rattle.rm_rules.specs.Healthy.{IsHealthy};
-    ghost use Rattle.machine.specs.Answers.{answer_of};
+    ghost use Rattle.machine.specs.Answers.{answer_of, change_to};
 
     /// The session of this number, where the seat has opened it.
     fn session_of(&self, seat: u32, number: u32) -> Option<Session>
         ensures { result ≡ session_of self.now seat number }
     {
-        session_called(&self.sessions, number).and_then(|x| if x.seat == seat { Some(x) } else { None })
+        session_called(&self.sessions, number).and_then(|x| if x.seat == seat {
+            Some(x)
+        } else {
+            None
+        })
     }
 
     /// The pool in which the session's next query would wait.
@@ -63,7 +69,7 @@ impl Machine {
     /// A new session of this user, opened by this seat.
     fn opening(&mut self, seat: u32, user: Name) -> Result<Told, Refusal>
         requires { IsHealthy self.old }
-        ensures ok { IfOk result (λ told. opening self.old seat user ≡ Ok (record { state = self.new; answer = answer_of told })) }
+        ensures ok { IfOk result (λ told. opening self.old seat user ≡ Ok (change_to self.new told)) }
         ensures err { IfErr result (λ refusal. opening self.old seat user ≡ Err refusal) }
         ensures kept { OnErr result (self.new ≡ self.old) }
     {
@@ -159,7 +165,8 @@ impl Machine {
     fn submitting_to(&mut self, x: &Session, pool: Name, floor: u64) -> Result<Told, Refusal>
         requires healthy { IsHealthy self.old }
         requires found { session_called self.old.sessions x.now.number ≡ Some x.now }
-        ensures ok { IfOk result (λ told. submitting_to self.old x.now pool floor ≡ Ok (record { state = self.new; answer = answer_of told })) }
+        ensures ok { IfOk result (λ told.
+            submitting_to self.old x.now pool floor ≡ Ok (change_to self.new told)) }
         ensures err { IfErr result (λ refusal. submitting_to self.old x.now pool floor ≡ Err refusal) }
         ensures kept { OnErr result (self.new ≡ self.old) }
     {
@@ -175,8 +182,10 @@ impl Machine {
     /// A new query of this session, in the session's pool.
     fn submitting(&mut self, seat: u32, session: u32, floor: u64) -> Result<Told, Refusal>
         requires { IsHealthy self.old }
-        ensures ok { IfOk result (λ told. submitting self.old (session_of self.old seat session) floor ≡ Ok (record { state = self.new; answer = answer_of told })) }
-        ensures err { IfErr result (λ refusal. submitting self.old (session_of self.old seat session) floor ≡ Err refusal) }
+        ensures ok { IfOk result (λ told.
+            submitting self.old (session_of self.old seat session) floor ≡ Ok (change_to self.new told)) }
+        ensures err { IfErr result (λ refusal.
+            submitting self.old (session_of self.old seat session) floor ≡ Err refusal) }
         ensures kept { OnErr result (self.new ≡ self.old) }
     {
         let Some(x) = self.session_of(seat, session) else {
@@ -188,8 +197,10 @@ impl Machine {
 
     /// The session's query ends, and its grant is given back.
     fn finishing(&mut self, seat: u32, session: u32) -> Result<Told, Refusal>
-        ensures ok { IfOk result (λ told. finishing self.old (session_of self.old seat session) ≡ Ok (record { state = self.new; answer = answer_of told })) }
-        ensures err { IfErr result (λ refusal. finishing self.old (session_of self.old seat session) ≡ Err refusal) }
+        ensures ok { IfOk result (λ told.
+            finishing self.old (session_of self.old seat session) ≡ Ok (change_to self.new told)) }
+        ensures err { IfErr result (λ refusal.
+            finishing self.old (session_of self.old seat session) ≡ Err refusal) }
         ensures kept { OnErr result (self.new ≡ self.old) }
     {
         let Some(x) = self.session_of(seat, session) else {
@@ -209,7 +220,7 @@ impl Machine {
     /// What the event changes, or why it is refused.
     pub fn change(&mut self, seat: u32, event: &Event) -> Result<Told, Refusal>
         requires { IsHealthy self.old }
-        ensures ok { IfOk result (λ told. change self.old seat event.now ≡ Ok (record { state = self.new; answer = answer_of told })) }
+        ensures ok { IfOk result (λ told. change self.old seat event.now ≡ Ok (change_to self.new told)) }
         ensures err { IfErr result (λ refusal. change self.old seat event.now ≡ Err refusal) }
         ensures kept { OnErr result (self.new ≡ self.old) }
     {

@@ -23,7 +23,12 @@ impl Machine {
         requires covered { IsCovered self.now }
         ensures { result ≡ own_of self.now pool }
     {
-        own_of(self.definitions.pools.rows(), &self.actual, &self.running, pool)
+        own_of(
+            self.definitions.pools.rows(),
+            &self.actual,
+            &self.running,
+            pool,
+        )
     }
 
     /// How much of its own bytes the pool does not use.
@@ -32,7 +37,12 @@ impl Machine {
         requires covered { IsCovered self.now }
         ensures { result ≡ unused_of self.now pool }
     {
-        unused_of(self.definitions.pools.rows(), &self.actual, &self.running, pool)
+        unused_of(
+            self.definitions.pools.rows(),
+            &self.actual,
+            &self.running,
+            pool,
+        )
     }
 
     /// What the pool's queries hold.
@@ -128,7 +138,11 @@ impl Machine {
         let poolfit = self.poolfit(pool, bytes);
         let need = self.need(pool, bytes);
         let fits = poolfit && (need == 0 || self.can_lend(need));
-        Judged { poolfit, need, fits }
+        Judged {
+            poolfit,
+            need,
+            fits,
+        }
     }
 
     /// What the waiting query asks for.

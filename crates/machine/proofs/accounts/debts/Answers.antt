@@ -1,4 +1,4 @@
-use Rattle.std.proofs.Common.{◌∙◌, ap, List, ℕ, arith, sum_by, take, length}
+use Rattle.std.proofs.Common.{◌∙◌, ap, List, ℕ, arith, sum_by}
 use Rattle.std.specs.List.{zip}
 use Rattle.std.proofs.lemmas.Slice.Zip.{length-zip}
 use Rattle.std.proofs.lemmas.List.{take_all}

@@ -1,4 +1,4 @@
-use Rattle.std.proofs.Common.{sym, ◌∙◌}
+use Rattle.std.proofs.Common.{sym}
 use Rattle.machine.proofs.Places.{with_phase-found, with_phase-absent}
 use Rattle.machine.proofs.sessions.set_phase.Goals as goal
 

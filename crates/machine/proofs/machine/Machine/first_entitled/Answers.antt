@@ -1,4 +1,4 @@
-use Rattle.std.proofs.Common.{◌≡◌, ◌<◌, ◌+◌, ◌||◌, List, length, get_or, take, drop, Bool, true, false, ap, sym, ◌∙◌, arith}
+use Rattle.std.proofs.Common.{◌<◌, ◌+◌, ◌||◌, List, length, get_or, take, drop, Bool, ap, sym, ◌∙◌, arith}
 use Rattle.rm_rules.specs.declared.state.Waiter.{Waiter}
 use Rattle.rm_rules.specs.declared.state.Judged.{Judged}
 use Rattle.rm_rules.specs.State.{State}

@@ -1,4 +1,4 @@
-use Rattle.std.proofs.Common.{◌∙◌, ap, sym, subst, ℕ, refl, length, arith}
+use Rattle.std.proofs.Common.{◌∙◌, ap, sym, subst, refl, length, arith}
 use Rattle.rm_rules.specs.State.{State}
 use Rattle.machine.proofs.Settling.{Settles, room-entitled, waiting-admitted, settles-admitted, settled-none}
 use Rattle.machine.proofs.machine.Machine.settle.Goals as goal

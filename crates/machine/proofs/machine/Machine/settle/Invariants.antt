@@ -1,5 +1,4 @@
-use Rattle.std.proofs.Common.{◌≡◌, length}
-use Rattle.rm_rules.specs.Admission.{settled}
+use Rattle.std.proofs.Common.{length}
 use Rattle.machine.proofs.Settling.{Settles}
 use Rattle.machine.proofs.machine.Machine.settle.Given as goal
 

@@ -1,4 +1,4 @@
-use Rattle.std.proofs.Common.{◌∙◌, ap, sym, subst, ◌≤◌, arith}
+use Rattle.std.proofs.Common.{◌∙◌, sym}
 use Rattle.machine.proofs.Submitting.{refused_user, refused_size, accepted_size, room_waiting, change-parts}
 use Rattle.rm_rules.specs.Change.{submitted}
 use Rattle.machine.specs.Answers.{answer_of}
