@@ -8,3 +8,5 @@ pub mod Conserved
 pub mod Moving
 pub mod Changing
 pub mod Laws
+pub mod AcceptancePools
+pub mod AcceptanceChains

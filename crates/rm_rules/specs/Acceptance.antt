@@ -156,8 +156,8 @@ chain pools (suc most) None = []
 chain pools (suc most) (Some name) = name ∷ chain pools most (cascade_of pools name)
 
 -- the chain from a pool on
-abbrev pub chain_from : List PoolRow → Name → List Name
-chain_from pools name = chain pools POOLS_MOST (Some name)
+abbrev pub chain_from : List PoolRow → PoolRow → List Name
+chain_from pools r = r.name ∷ chain pools POOLS_MOST r.cascade
 
 -- 14: the chain from the pool returns to it
 abbrev pub cascade_loop : List PoolRow → PoolRow → Option Refusal
@@ -170,7 +170,7 @@ length_through name names = if list_any (same_name name) names then length names
 -- the length of the longest chain through this pool, of those that start at one of these
 abbrev pub longest_through : List PoolRow → Name → List PoolRow → ℕ
 longest_through pools name [] = 0
-longest_through pools name (r ∷ rs) = max (length_through name (chain_from pools r.name)) (longest_through pools name rs)
+longest_through pools name (r ∷ rs) = max (length_through name (chain_from pools r)) (longest_through pools name rs)
 
 -- 15: the longest chain through the pool is too long
 abbrev pub chain_too_long : List PoolRow → Name → Option Refusal
