@@ -10,3 +10,5 @@ pub mod Changing
 pub mod Laws
 pub mod AcceptancePools
 pub mod AcceptanceChains
+pub mod AcceptanceRanges
+pub mod AcceptanceLaws
