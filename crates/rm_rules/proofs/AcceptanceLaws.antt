@@ -220,6 +220,16 @@ apart-turn d name true e sound missing =
     absurd (false≢true (sym missing ∙ subst (λ n. has_pool d n ≡ true) (sym (same_name-eq name general e)) (general-there d sound)))
 apart-turn d name false e sound missing = refl
 
+-- the rows that well-formed statements leave are in range
+memory-fits : (d : Definitions) → IsSound d → d.memory ≤ MEMORY_MOST
+memory-fits d sound = leb-true d.memory MEMORY_MOST (and_right (nat_le MEMORY_LEAST d.memory) _ sound.memory)
+
+pub created-in_range : (d : Definitions) (name : Name) (c : PoolChange) → IsSound d → is_pool_change_in_range c ≡ true → is_pool_in_range (created_row d name c) ≡ true
+created-in_range d name c sound named = changed-in_range d (default_pool_row name) c (memory-fits d sound) sound.total_most named refl
+
+pub altered-in_range : (d : Definitions) (name : Name) (c : PoolChange) → IsSound d → is_pool_change_in_range c ≡ true → is_pool_in_range (altered_row d name c) ≡ true
+altered-in_range d name c sound named = changed-in_range d (pool_row d name) c (memory-fits d sound) sound.total_most named (pool_row-in_range d name sound)
+
 -- what a created pool's row is
 pub let_in-created : (d : Definitions) (name : Name) (c : PoolChange) → IsSound d → is_pool_change_in_range c ≡ true
     → create_refusal d name (created_row d name c) ≡ None → IsLetIn d (created_row d name c)
@@ -235,7 +245,7 @@ let_in-created d name c sound named h =
     let least = sound.total_least in
     let most = sound.total_most in
     record {
-      in_range = changed-in_range d (default_pool_row name) c (leb-true d.memory MEMORY_MOST (and_right (nat_le MEMORY_LEAST d.memory) _ sound.memory)) sound.total_most named refl;
+      in_range = created-in_range d name c sound named;
       memory = λ is. absurd (false≢true (sym apart ∙ is));
       least = subst (λ t. TOTAL_LEAST ≤ t) (sym same) least;
       most = subst (λ t. t ≤ d.memory) (sym same) most;
@@ -312,7 +322,7 @@ let_in-altered d name c sound named h =
     let same : length (with_row row d.pools) ≡ length d.pools = length_with-there row d.pools (subst (λ n. has_pool d n ≡ true) (sym (pool_row-name d name)) there) in
     let few = sound.pool_count in
     record {
-      in_range = changed-in_range d (pool_row d name) c (leb-true d.memory MEMORY_MOST (and_right (nat_le MEMORY_LEAST d.memory) _ sound.memory)) sound.total_most named (pool_row-in_range d name sound);
+      in_range = altered-in_range d name c sound named;
       memory = λ is. general-keeps d name c sound built_in.0 (subst (λ n. same_name n general ≡ true) (pool_row-name d name) is);
       least = total_in.least;
       most = total_in.most;

@@ -1,11 +1,13 @@
 -- Lemmas on the pools with one more row, or with another in its place.
-use Rattle.std.specs.Prelude.{◌≡◌, ℕ, ◌+◌, ◌≤◌, Bool, true, false, ◌&&◌, ◌||◌, not, cond, ◌==◌, List, [], ◌∷◌, length, Option, Some, None, is_some, refl}
+use Rattle.std.specs.Prelude.{◌≡◌, ℕ, ◌+◌, ◌≤◌, Bool, true, false, ◌&&◌, ◌||◌, not, cond, ◌==◌, List, [], ◌∷◌, length, Option, Some, None, is_some, unwrap_or, sum_by, refl}
 use Rattle.std.specs.List.{list_all, list_any}
 use Rattle.std.proofs.Common.{sym, ap, ◌∙◌, subst, arith}
 use Rattle.std.proofs.lemmas.Bool.{false≢true}
+use Rattle.std.proofs.lemmas.List.Sums.{sum_by-cons}
 use Rattle.rm_base.specs.declared.rows.PoolRow.{PoolRow}
 use Rattle.rm_base.specs.declared.name.Name.{Name}
 use Rattle.rm_base.specs.Name.{same_name, general}
+use Rattle.rm_base.specs.Definitions.{default_pool_row}
 use Rattle.rm_base.proofs.Names.{same_name-eq}
 use Rattle.rm_rules.specs.Definitions.{pool_called}
 use Rattle.rm_rules.specs.Sound.{are_distinct, begins_with_general}
@@ -110,3 +112,29 @@ pub first_with : (row : PoolRow) (pools : List PoolRow) → begins_with_general 
     → begins_with_general (with_row row pools) ≡ true
 first_with row [] begins memory = absurd (false≢true begins)
 first_with row (r ∷ rs) begins memory = first-turn row r rs (same_name r.name row.name) refl begins memory
+
+-- what the pools reserve then: as before, but for what this pool reserved and reserves
+abbrev pub memory_of : Name → Option PoolRow → ℕ
+memory_of name o = (unwrap_or o (default_pool_row name)).memory
+
+reserved-turn : (row r : PoolRow) (rs : List PoolRow) (b : Bool)
+    → sum_by (λ x. x.memory) (with_row row rs) + memory_of row.name (pool_called rs row.name) ≡ sum_by (λ x. x.memory) rs + row.memory
+    → sum_by (λ x. x.memory) (cond b (row ∷ rs) (r ∷ with_row row rs)) + memory_of row.name (cond b (Some r) (pool_called rs row.name)) ≡ sum_by (λ x. x.memory) (r ∷ rs) + row.memory
+reserved-turn row r rs true behind = omega (arith, sum_by-cons (λ (x : PoolRow). x.memory) row rs, sum_by-cons (λ (x : PoolRow). x.memory) r rs)
+reserved-turn row r rs false behind =
+    omega (arith, behind, sum_by-cons (λ (x : PoolRow). x.memory) r (with_row row rs), sum_by-cons (λ (x : PoolRow). x.memory) r rs)
+
+pub reserved_with : (row : PoolRow) (pools : List PoolRow)
+    → sum_by (λ r. r.memory) (with_row row pools) + memory_of row.name (pool_called pools row.name) ≡ sum_by (λ r. r.memory) pools + row.memory
+reserved_with row [] = omega (arith, sum_by-cons (λ (x : PoolRow). x.memory) row [])
+reserved_with row (r ∷ rs) = reserved-turn row r rs (same_name r.name row.name) (reserved_with row rs)
+
+-- what one pool reserves is part of what all do
+memory-turn : (r : PoolRow) (rs : List PoolRow) (name : Name) (b : Bool) → memory_of name (pool_called rs name) ≤ sum_by (λ x. x.memory) rs
+    → memory_of name (cond b (Some r) (pool_called rs name)) ≤ sum_by (λ x. x.memory) (r ∷ rs)
+memory-turn r rs name true behind = omega (arith, sum_by-cons (λ (x : PoolRow). x.memory) r rs)
+memory-turn r rs name false behind = omega (arith, behind, sum_by-cons (λ (x : PoolRow). x.memory) r rs)
+
+pub memory_of-within : (pools : List PoolRow) (name : Name) → memory_of name (pool_called pools name) ≤ sum_by (λ r. r.memory) pools
+memory_of-within [] name = omega arith
+memory_of-within (r ∷ rs) name = memory-turn r rs name (same_name r.name name) (memory_of-within rs name)
