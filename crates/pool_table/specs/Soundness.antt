@@ -1,7 +1,7 @@
 -- The parts of soundness, each as a test.
-use Rattle.std.specs.Prelude.{ℕ, ◌-◌, ◌*◌, Bool, ◌&&◌, nat_le, List, ◌++◌, is_some, map}
+use Rattle.std.specs.Prelude.{ℕ, ◌-◌, ◌*◌, Bool, ◌&&◌, nat_le, List, ◌++◌, is_some, length, map}
 use Rattle.std.specs.List.{list_all}
-use Rattle.rm_base.specs.declared.limits.TheConstants.{MEMORY_LEAST, MEMORY_MOST, TOTAL_LEAST, CORES_MOST, CHANGES_MOST, CHAIN_MOST}
+use Rattle.rm_base.specs.declared.limits.TheConstants.{MEMORY_LEAST, MEMORY_MOST, TOTAL_LEAST, CORES_MOST, CHANGES_MOST, CHAIN_MOST, POOLS_MOST, USERS_MOST, ROLES_MOST, GRANTS_MOST}
 use Rattle.rm_base.specs.declared.definitions.Definitions.{Definitions}
 use Rattle.rm_base.specs.Name.{dbadmin}
 use Rattle.rm_rules.specs.Definitions.{total, reserved, user_called}
@@ -10,6 +10,11 @@ use Rattle.rm_rules.specs.Sound.{passes_if_set, is_between, is_pool_in_range, is
 -- the machine's memory and cores, and the count of changes
 abbrev pub are_numbers_in_range : Definitions → Bool
 are_numbers_in_range d = is_between MEMORY_LEAST MEMORY_MOST d.memory && (is_between 1 CORES_MOST d.cores && nat_le d.changes CHANGES_MOST)
+
+-- how many rows each table has
+abbrev pub are_counts_in_range : Definitions → Bool
+are_counts_in_range d =
+    nat_le (length d.pools) POOLS_MOST && (nat_le (length d.users) USERS_MOST && (nat_le (length d.roles) ROLES_MOST && nat_le (length d.grants) GRANTS_MOST))
 
 -- the values of the pools and the users
 abbrev pub are_values_in_range : Definitions → Bool

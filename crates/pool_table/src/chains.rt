@@ -4,6 +4,7 @@ ghost use Rattle.std.specs.List.{list_any};
 ghost use Rattle.rm_base.specs.declared.limits.TheConstants.{POOLS_MOST};
 ghost use Rattle.rm_base.specs.Name.{same_name};
 ghost use Rattle.rm_rules.specs.Sound.{IsSound, chain_ends};
+ghost use Rattle.pool_table.specs.Longest.{other_length, longest_of_others};
 ghost use Rattle.rm_rules.specs.Acceptance.{with_row, with_pool, cascade_of, chain, chain_from, length_through, longest_through};
 
 use crate::after::called_after;
@@ -77,6 +78,29 @@ fn length_through(rows: &[PoolRow], row: &PoolRow, start: &PoolRow) -> usize
     }
 }
 
+fn other_length(rows: &[PoolRow], row: &PoolRow, start: &PoolRow) -> usize
+    ensures value { result ≡ other_length (with_row row.now rows.now) row.now.name start.now }
+    ensures most { result ≤ POOLS_MOST + 1 }
+{
+    if row.name.same(start.name) {
+        0
+    } else {
+        length_through(rows, row, start)
+    }
+}
+
+fn longest_of_others(rows: &[PoolRow], row: &PoolRow, starts: &[PoolRow]) -> usize
+    ensures value { result ≡ longest_of_others (with_row row.now rows.now) row.now.name starts.now }
+    ensures most { result ≤ POOLS_MOST + 1 }
+{
+    match starts {
+        [] => 0,
+        [first, rest @ ..] => {
+            other_length(rows, row, first).max(longest_of_others(rows, row, rest))
+        }
+    }
+}
+
 /// How many pools the longest chain has on which the pool of the row stands.
 pub fn longest_through(definitions: &Definitions, row: &PoolRow) -> usize
     requires { IsSound definitions.now }
@@ -84,11 +108,6 @@ pub fn longest_through(definitions: &Definitions, row: &PoolRow) -> usize
     ensures most { result ≤ POOLS_MOST + 1 }
 {
     let rows = definitions.pools.rows();
-    let mut longest = length_through(rows, row, row);
-    for start in rows {
-        if !row.name.same(start.name) {
-            longest = longest.max(length_through(rows, row, start));
-        }
-    }
-    longest
+    let own = length_through(rows, row, row);
+    own.max(longest_of_others(rows, row, rows))
 }

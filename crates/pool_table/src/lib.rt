@@ -2,7 +2,7 @@
 #![tactic(auto)]
 
 ghost use Rattle.std.specs.Prelude.{◌≡◌, ◌<◌, ◌≤◌, Ok, Err, Some, None, length, IsTrue, IsOk, IfErr, OnOk};
-ghost use Rattle.std.specs.List.{position_or_len};
+ghost use Rattle.std.specs.List.{position};
 ghost use Rattle.rm_base.specs.declared.limits.TheConstants.{POOLS_MOST, CHANGES_MOST};
 ghost use Rattle.rm_base.specs.Name.{same_name};
 ghost use Rattle.rm_rules.specs.Sound.{IsSound};
@@ -23,6 +23,7 @@ use rm_base::name::Name;
 use rm_base::refusal::Refusal;
 use rm_base::rows::PoolRow;
 use rm_base::statement::Statement;
+use rm_base::tables::Pools;
 
 /// Whether a statement is accepted, or the first of the refusals that hold, in the order of their numbers.
 pub fn accept(definitions: &Definitions, statement: &Statement) -> Result<(), Refusal>
@@ -77,27 +78,31 @@ fn unless_refused(refusal: Option<Refusal>) -> Result<(), Refusal>
     }
 }
 
-/// The place of the first pool of this name, or how many pools there are.
-fn place_of(rows: &[PoolRow], name: Name) -> usize
-    ensures { result ≡ position_or_len (λ r. same_name r.name name) rows.now }
+/// The place of the first pool of this name.
+fn place_of(rows: &[PoolRow], name: Name) -> Option<usize>
+    ensures { result ≡ position (λ r. same_name r.name name) rows.now }
 {
-    rows.iter()
-        .position(|r| r.name.same(name))
-        .unwrap_or(rows.len())
+    rows.iter().position(|r| r.name.same(name))
 }
 
-/// Puts the row in the place of the pool of its name, or at the end, and counts the change.
+/// Puts the row in the place of the pool of its name, or at the end.
+fn put_pool(pools: &mut Pools, row: PoolRow)
+    requires { length (with_row row pools.old) ≤ POOLS_MOST }
+    ensures { pools.new ≡ with_row row pools.old }
+{
+    match place_of(pools.rows(), row.name) {
+        Some(place) => pools.set(place, row),
+        None => pools.add(row),
+    }
+}
+
+/// Puts the row in its place, and counts the change.
 fn put_row(definitions: &mut Definitions, row: PoolRow)
     requires room { length (with_row row definitions.old.pools) ≤ POOLS_MOST }
     requires changes { definitions.old.changes < CHANGES_MOST }
     ensures { definitions.new ≡ with_pool definitions.old row }
 {
-    let place = place_of(definitions.pools.rows(), row.name);
-    if place < definitions.pools.rows().len() {
-        definitions.pools.set(place, row);
-    } else {
-        definitions.pools.add(row);
-    }
+    put_pool(&mut definitions.pools, row);
     definitions.changes += 1;
 }
 

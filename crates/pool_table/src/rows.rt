@@ -25,6 +25,7 @@ pub fn pool_row(definitions: &Definitions, name: Name) -> PoolRow
 }
 
 /// The total, in bytes.
+#[tactic(auto, using(crate::proofs::Sizes::total_most))]
 pub fn total(definitions: &Definitions) -> u64
     requires memory { definitions.now.memory ≤ MEMORY_MOST }
     requires pools { IsTrue (list_all is_pool_in_range definitions.now.pools) }

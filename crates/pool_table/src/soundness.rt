@@ -1,18 +1,19 @@
 //! Whether definitions are sound.
-ghost use Rattle.std.specs.Prelude.{◌≡◌, ◌≤◌, ◌↔◌, ◌++◌, IsTrue, is_some, map, nat_le};
+ghost use Rattle.std.specs.Prelude.{◌≡◌, ◌-◌, ◌≤◌, ◌↔◌, ◌++◌, IsTrue, is_some, map, nat_le};
 ghost use Rattle.std.specs.List.{list_all, list_any};
-ghost use Rattle.rm_base.specs.declared.limits.TheConstants.{MEMORY_MOST, CONCURRENCY_MOST, SPAN_MOST};
+ghost use Rattle.rm_base.specs.declared.limits.TheConstants.{MEMORY_MOST, CONCURRENCY_MOST, SPAN_MOST, CHAIN_MOST};
 ghost use Rattle.rm_base.specs.Name.{same_name};
 ghost use Rattle.rm_rules.specs.Definitions.{user_called, role_called};
-ghost use Rattle.rm_rules.specs.Sound.{IsSound, passes_if_set, is_between, is_priority, is_pool_in_range, is_user_in_range, begins_with_general, are_distinct, is_within_max, has_pool, is_grant_known, same_grant, are_grants_distinct};
-ghost use Rattle.pool_table.specs.Soundness.{are_numbers_in_range, are_values_in_range, are_names_right, is_total_right, are_links_right};
+ghost use Rattle.rm_rules.specs.Sound.{IsSound, passes_if_set, is_between, is_priority, is_pool_in_range, is_user_in_range, begins_with_general, are_distinct, is_within_max, has_pool, chain_ends, is_grant_known, same_grant, are_grants_distinct};
+ghost use Rattle.pool_table.specs.Soundness.{are_numbers_in_range, are_counts_in_range, are_values_in_range, are_names_right, is_total_right, are_links_right};
 
 use crate::chains::chain_ends;
 use crate::rows::{pool_called, reserved, total};
 use rm_base::definitions::Definitions;
 use rm_base::limits::{
-    CHAIN_MOST, CHANGES_MOST, CONCURRENCY_MOST, CORES_MOST, MEMORY_LEAST, MEMORY_MOST,
-    PRIORITY_MOST, SPAN_MOST, THRESHOLD_SECONDS_MOST, TOTAL_LEAST,
+    CHAIN_MOST, CHANGES_MOST, CONCURRENCY_MOST, CORES_MOST, GRANTS_MOST, MEMORY_LEAST,
+    MEMORY_MOST, POOLS_MOST, PRIORITY_MOST, ROLES_MOST, SPAN_MOST, THRESHOLD_SECONDS_MOST,
+    TOTAL_LEAST, USERS_MOST,
 };
 use rm_base::name::Name;
 use rm_base::rows::{GrantRow, PoolRow, RoleRow, UserRow};
@@ -22,10 +23,10 @@ pub fn sound(definitions: &Definitions) -> bool
     ensures { IsTrue result ↔ IsSound definitions.now }
 {
     are_numbers_in_range(definitions)
-        && are_values_in_range(definitions)
-        && are_names_right(definitions)
-        && is_total_right(definitions)
-        && are_links_right(definitions)
+        && (are_counts_in_range(definitions)
+            && (are_values_in_range(definitions)
+                && (are_names_right(definitions)
+                    && (is_total_right(definitions) && are_links_right(definitions)))))
 }
 
 fn are_numbers_in_range(definitions: &Definitions) -> bool
@@ -36,13 +37,21 @@ fn are_numbers_in_range(definitions: &Definitions) -> bool
             && definitions.changes <= CHANGES_MOST)
 }
 
+fn are_counts_in_range(definitions: &Definitions) -> bool
+    ensures { result ≡ are_counts_in_range definitions.now }
+{
+    definitions.pools.rows().len() <= POOLS_MOST
+        && (definitions.users.rows().len() <= USERS_MOST
+            && (definitions.roles.rows().len() <= ROLES_MOST
+                && definitions.grants.rows().len() <= GRANTS_MOST))
+}
+
 fn are_values_in_range(definitions: &Definitions) -> bool
     ensures { result ≡ are_values_in_range definitions.now }
 {
     let pools = definitions.pools.rows();
-    pools.iter().all(is_pool_in_range)
-        && (definitions.users.rows().iter().all(is_user_in_range)
-            && pools.iter().all(is_within_max))
+    are_pools_in_range(pools)
+        && (are_users_in_range(definitions.users.rows()) && are_pools_within_max(pools))
 }
 
 fn are_names_right(definitions: &Definitions) -> bool
@@ -71,23 +80,58 @@ fn is_total_right(definitions: &Definitions) -> bool
 fn are_links_right(definitions: &Definitions) -> bool
     ensures { result ≡ are_links_right definitions.now }
 {
-    let pools = definitions.pools.rows();
     let grants = definitions.grants.rows();
+    do_chains_end(definitions.pools.rows())
+        && (are_user_pools_there(definitions)
+            && (are_role_pools_there(definitions)
+                && (are_grants_known(definitions) && are_grants_distinct(grants))))
+}
+
+fn are_pools_in_range(pools: &[PoolRow]) -> bool
+    ensures { result ≡ list_all is_pool_in_range pools.now }
+{
+    pools.iter().all(is_pool_in_range)
+}
+
+fn are_users_in_range(users: &[UserRow]) -> bool
+    ensures { result ≡ list_all is_user_in_range users.now }
+{
+    users.iter().all(is_user_in_range)
+}
+
+fn are_pools_within_max(pools: &[PoolRow]) -> bool
+    ensures { result ≡ list_all is_within_max pools.now }
+{
+    pools.iter().all(is_within_max)
+}
+
+fn do_chains_end(pools: &[PoolRow]) -> bool
+    ensures { result ≡ list_all (λ r. chain_ends pools.now (CHAIN_MOST - 1) r.cascade) pools.now }
+{
     pools
         .iter()
         .all(|r| chain_ends(pools, r.cascade, CHAIN_MOST - 1))
-        && (definitions
-            .users
-            .rows()
-            .iter()
-            .all(|u| is_pool_there(definitions, u.pool))
-            && (definitions
-                .roles
-                .rows()
-                .iter()
-                .all(|r| is_pool_there(definitions, r.pool))
-                && (grants.iter().all(|g| is_grant_known(definitions, g))
-                    && are_grants_distinct(grants))))
+}
+
+fn are_user_pools_there(definitions: &Definitions) -> bool
+    ensures { result ≡ list_all (λ u. passes_if_set (has_pool definitions.now) u.pool) definitions.now.users }
+{
+    let users = definitions.users.rows();
+    users.iter().all(|u| is_pool_there(definitions, u.pool))
+}
+
+fn are_role_pools_there(definitions: &Definitions) -> bool
+    ensures { result ≡ list_all (λ r. passes_if_set (has_pool definitions.now) r.pool) definitions.now.roles }
+{
+    let roles = definitions.roles.rows();
+    roles.iter().all(|r| is_pool_there(definitions, r.pool))
+}
+
+fn are_grants_known(definitions: &Definitions) -> bool
+    ensures { result ≡ list_all (is_grant_known definitions.now) definitions.now.grants }
+{
+    let grants = definitions.grants.rows();
+    grants.iter().all(|g| is_grant_known(definitions, g))
 }
 
 fn is_within_bytes(bytes: Option<u64>) -> bool
@@ -155,14 +199,30 @@ fn begins_with_general(pools: &[PoolRow]) -> bool
     }
 }
 
+fn is_pool_name(name: Name, pools: &[PoolRow]) -> bool
+    ensures { result ≡ list_any (same_name name) (map (λ r. r.name) pools.now) }
+{
+    pools.iter().map(|r| r.name).any(|n| name.same(n))
+}
+
+fn is_user_name(name: Name, users: &[UserRow]) -> bool
+    ensures { result ≡ list_any (same_name name) (map (λ u. u.name) users.now) }
+{
+    users.iter().map(|u| u.name).any(|n| name.same(n))
+}
+
+fn is_role_name(name: Name, roles: &[RoleRow]) -> bool
+    ensures { result ≡ list_any (same_name name) (map (λ r. r.name) roles.now) }
+{
+    roles.iter().map(|r| r.name).any(|n| name.same(n))
+}
+
 fn are_pools_distinct(pools: &[PoolRow]) -> bool
     ensures { result ≡ are_distinct (map (λ r. r.name) pools.now) }
 {
     match pools {
         [] => true,
-        [first, rest @ ..] => {
-            !rest.iter().any(|r| first.name.same(r.name)) && are_pools_distinct(rest)
-        }
+        [first, rest @ ..] => !is_pool_name(first.name, rest) && are_pools_distinct(rest),
     }
 }
 
@@ -171,10 +231,15 @@ fn are_roles_distinct(roles: &[RoleRow]) -> bool
 {
     match roles {
         [] => true,
-        [first, rest @ ..] => {
-            !rest.iter().any(|r| first.name.same(r.name)) && are_roles_distinct(rest)
-        }
+        [first, rest @ ..] => !is_role_name(first.name, rest) && are_roles_distinct(rest),
     }
+}
+
+/// Whether the name is one of the users' or of the roles'.
+fn is_owner_name(name: Name, users: &[UserRow], roles: &[RoleRow]) -> bool
+    ensures { result ≡ list_any (same_name name) (map (λ u. u.name) users.now ++ map (λ r. r.name) roles.now) }
+{
+    is_user_name(name, users) || is_role_name(name, roles)
 }
 
 /// Whether no name stands twice among the users and the roles.
@@ -184,23 +249,33 @@ fn are_users_distinct(users: &[UserRow], roles: &[RoleRow]) -> bool
     match users {
         [] => are_roles_distinct(roles),
         [first, rest @ ..] => {
-            !(rest.iter().any(|u| first.name.same(u.name))
-                || roles.iter().any(|r| first.name.same(r.name)))
-                && are_users_distinct(rest, roles)
+            !is_owner_name(first.name, rest, roles) && are_users_distinct(rest, roles)
         }
     }
+}
+
+fn user_called(users: &[UserRow], name: Name) -> Option<UserRow>
+    ensures { result ≡ user_called users.now name }
+{
+    users.iter().copied().find(|u| u.name.same(name))
+}
+
+fn role_called(roles: &[RoleRow], name: Name) -> Option<RoleRow>
+    ensures { result ≡ role_called roles.now name }
+{
+    roles.iter().copied().find(|r| r.name.same(name))
 }
 
 fn has_user(users: &[UserRow], name: Name) -> bool
     ensures { result ≡ is_some (user_called users.now name) }
 {
-    users.iter().find(|u| u.name.same(name)).is_some()
+    user_called(users, name).is_some()
 }
 
 fn has_role(roles: &[RoleRow], name: Name) -> bool
     ensures { result ≡ is_some (role_called roles.now name) }
 {
-    roles.iter().find(|r| r.name.same(name)).is_some()
+    role_called(roles, name).is_some()
 }
 
 fn has_pool(definitions: &Definitions, name: Name) -> bool
@@ -237,12 +312,26 @@ fn is_grant_known(definitions: &Definitions, grant: &GrantRow) -> bool
 fn same_grant(a: &GrantRow, b: &GrantRow) -> bool
     ensures { result ≡ same_grant a.now b.now }
 {
-    match (a, b) {
-        (GrantRow::PoolToUser(p, u), GrantRow::PoolToUser(q, v)) => p.same(*q) && u.same(*v),
-        (GrantRow::PoolToRole(p, r), GrantRow::PoolToRole(q, s)) => p.same(*q) && r.same(*s),
-        (GrantRow::RoleToUser(r, u), GrantRow::RoleToUser(s, v)) => r.same(*s) && u.same(*v),
-        _ => false,
+    match a {
+        GrantRow::PoolToUser(pool, user) => match b {
+            GrantRow::PoolToUser(p, u) => pool.same(*p) && user.same(*u),
+            GrantRow::PoolToRole(..) | GrantRow::RoleToUser(..) => false,
+        },
+        GrantRow::PoolToRole(pool, role) => match b {
+            GrantRow::PoolToRole(p, r) => pool.same(*p) && role.same(*r),
+            GrantRow::PoolToUser(..) | GrantRow::RoleToUser(..) => false,
+        },
+        GrantRow::RoleToUser(role, user) => match b {
+            GrantRow::RoleToUser(r, u) => role.same(*r) && user.same(*u),
+            GrantRow::PoolToUser(..) | GrantRow::PoolToRole(..) => false,
+        },
     }
+}
+
+fn has_grant(grant: &GrantRow, grants: &[GrantRow]) -> bool
+    ensures { result ≡ list_any (same_grant grant.now) grants.now }
+{
+    grants.iter().any(|g| same_grant(grant, g))
 }
 
 fn are_grants_distinct(grants: &[GrantRow]) -> bool
@@ -250,8 +339,6 @@ fn are_grants_distinct(grants: &[GrantRow]) -> bool
 {
     match grants {
         [] => true,
-        [first, rest @ ..] => {
-            !rest.iter().any(|g| same_grant(first, g)) && are_grants_distinct(rest)
-        }
+        [first, rest @ ..] => !has_grant(first, rest) && are_grants_distinct(rest),
     }
 }

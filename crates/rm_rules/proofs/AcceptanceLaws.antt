@@ -1,5 +1,5 @@
 -- What is accepted leads from sound definitions to sound ones, and counts one change.
-use Rattle.std.specs.Prelude.{◌≡◌, ℕ, zero, suc, ◌+◌, ◌-◌, ◌*◌, ◌/◌, ◌≤◌, ◌<◌, Bool, true, false, cond, ◌&&◌, ◌||◌, not, ◌==◌, nat_lt, nat_le, List, [], ◌∷◌, length, map, Option, Some, None, Result, Ok, Err, is_some, unwrap_or, option_map, max, refl}
+use Rattle.std.specs.Prelude.{◌≡◌, ℕ, zero, suc, ◌+◌, ◌-◌, ◌*◌, ◌/◌, ◌≤◌, ◌<◌, Bool, true, false, cond, ◌&&◌, ◌||◌, not, ◌==◌, nat_lt, nat_le, List, [], ◌∷◌, length, map, Option, Some, None, Result, Ok, Err, is_ok, is_some, unwrap_or, option_map, max, refl}
 use Rattle.std.specs.List.{list_all, list_any}
 use Rattle.std.proofs.Common.{sym, ap, ◌∙◌, subst, arith}
 use Rattle.std.proofs.lemmas.Bool.{false≢true, leb-true}
@@ -364,3 +364,36 @@ accepted-counted d (CreatePool name c) new is h =
 accepted-counted d (AlterPool name c) new is h =
     with-counted d (altered_row d name c) new (unless-ok (alter_refusal d name c (altered_row d name c)) (with_pool d (altered_row d name c)) new h).1
 accepted-counted d _ new is h = absurd (false≢true is)
+
+-- what is accepted of a pool statement is let in, and is the definitions with the row
+ok-none : (o : Option Refusal) (next : Definitions) → is_ok (unless_refused o next) ≡ true → o ≡ None
+ok-none None next h = refl
+ok-none (Some r) next h = absurd (false≢true h)
+
+ok-next : (o : Option Refusal) (next : Definitions) → is_ok (unless_refused o next) ≡ true → unless_refused o next ≡ Ok next
+ok-next None next h = refl
+ok-next (Some r) next h = absurd (false≢true h)
+
+pub created-let_in : (d : Definitions) (statement : Statement) (name : Name) (c : PoolChange) → statement ≡ CreatePool name c → IsSound d → IsWellFormed statement
+    → is_ok (accepted d statement) ≡ true → IsLetIn d (created_row d name c)
+created-let_in d statement name c e sound =
+    subst (λ s. IsWellFormed s → is_ok (accepted d s) ≡ true → IsLetIn d (created_row d name c)) (sym e)
+    (λ formed ok. let_in-created d name c sound formed (ok-none (create_refusal d name (created_row d name c)) (with_pool d (created_row d name c)) ok))
+
+pub altered-let_in : (d : Definitions) (statement : Statement) (name : Name) (c : PoolChange) → statement ≡ AlterPool name c → IsSound d → IsWellFormed statement
+    → is_ok (accepted d statement) ≡ true → IsLetIn d (altered_row d name c)
+altered-let_in d statement name c e sound =
+    subst (λ s. IsWellFormed s → is_ok (accepted d s) ≡ true → IsLetIn d (altered_row d name c)) (sym e)
+    (λ formed ok. let_in-altered d name c sound formed (ok-none (alter_refusal d name c (altered_row d name c)) (with_pool d (altered_row d name c)) ok))
+
+pub created-next : (d : Definitions) (statement : Statement) (name : Name) (c : PoolChange) → statement ≡ CreatePool name c
+    → is_ok (accepted d statement) ≡ true → accepted d statement ≡ Ok (with_pool d (created_row d name c))
+created-next d statement name c e =
+    subst (λ s. is_ok (accepted d s) ≡ true → accepted d s ≡ Ok (with_pool d (created_row d name c))) (sym e)
+    (λ ok. ok-next (create_refusal d name (created_row d name c)) (with_pool d (created_row d name c)) ok)
+
+pub altered-next : (d : Definitions) (statement : Statement) (name : Name) (c : PoolChange) → statement ≡ AlterPool name c
+    → is_ok (accepted d statement) ≡ true → accepted d statement ≡ Ok (with_pool d (altered_row d name c))
+altered-next d statement name c e =
+    subst (λ s. is_ok (accepted d s) ≡ true → accepted d s ≡ Ok (with_pool d (altered_row d name c))) (sym e)
+    (λ ok. ok-next (alter_refusal d name c (altered_row d name c)) (with_pool d (altered_row d name c)) ok)
