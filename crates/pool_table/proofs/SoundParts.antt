@@ -26,13 +26,13 @@ pub record HasParts (d : Definitions) : Type 0 where
 
 pub parts-sound : (d : Definitions) → IsSound d → HasParts d
 parts-sound d s = record {
-    numbers = and_both _ _ s.memory (and_both _ _ s.cores (le-true d.changes CHANGES_MOST s.changes));
-    counts = and_both _ _ (le-true (length d.pools) POOLS_MOST s.pool_count) (and_both _ _ (le-true (length d.users) USERS_MOST s.user_count) (and_both _ _ (le-true (length d.roles) ROLES_MOST s.role_count) (le-true (length d.grants) GRANTS_MOST s.grant_count)));
-    values = and_both _ _ s.pools_in_range (and_both _ _ s.users_in_range s.pools_within_max);
-    names = and_both _ _ s.general_first (and_both _ _ s.dbadmin_there (and_both _ _ s.pools_distinct s.users_distinct));
-    totals = and_both _ _ (le-true TOTAL_LEAST (total d) s.total_least) (and_both _ _ (le-true (total d) d.memory s.total_most) (and_both _ _ (le-true (reserved d) (total d) s.reserved_most) (le-true (total d) (4 * (total d - reserved d)) s.quarter_left)));
-    links = and_both _ _ s.chains_end (and_both _ _ s.user_pools_there (and_both _ _ s.role_pools_there (and_both _ _ s.grants_known s.grants_distinct)));
-  }
+  numbers = and_both _ _ s.memory (and_both _ _ s.cores (le-true d.changes CHANGES_MOST s.changes));
+  counts = and_both _ _ (le-true (length d.pools) POOLS_MOST s.pool_count) (and_both _ _ (le-true (length d.users) USERS_MOST s.user_count) (and_both _ _ (le-true (length d.roles) ROLES_MOST s.role_count) (le-true (length d.grants) GRANTS_MOST s.grant_count)));
+  values = and_both _ _ s.pools_in_range (and_both _ _ s.users_in_range s.pools_within_max);
+  names = and_both _ _ s.general_first (and_both _ _ s.dbadmin_there (and_both _ _ s.pools_distinct s.users_distinct));
+  totals = and_both _ _ (le-true TOTAL_LEAST (total d) s.total_least) (and_both _ _ (le-true (total d) d.memory s.total_most) (and_both _ _ (le-true (reserved d) (total d) s.reserved_most) (le-true (total d) (4 * (total d - reserved d)) s.quarter_left)));
+  links = and_both _ _ s.chains_end (and_both _ _ s.user_pools_there (and_both _ _ s.role_pools_there (and_both _ _ s.grants_known s.grants_distinct)));
+}
 
 pub sound-parts : (d : Definitions) → HasParts d → IsSound d
 sound-parts d p =

@@ -46,8 +46,7 @@ pub fn is_on_chain(rows: &[PoolRow], row: &PoolRow, next: Option<Name>, most: us
     match next {
         None => false,
         Some(name) => {
-            row.name.same(name)
-                || is_on_chain(rows, row, cascade_of(rows, row, name), most - 1)
+            row.name.same(name) || is_on_chain(rows, row, cascade_of(rows, row, name), most - 1)
         }
     }
 }

@@ -14,8 +14,6 @@ mod refusals;
 mod rows;
 mod soundness;
 
-pub use soundness::sound;
-
 use crate::refusals::{alter_refusal, create_refusal};
 use crate::rows::{altered_row, created_row};
 use rm_base::definitions::Definitions;
@@ -24,6 +22,7 @@ use rm_base::refusal::Refusal;
 use rm_base::rows::PoolRow;
 use rm_base::statement::Statement;
 use rm_base::tables::Pools;
+pub use soundness::sound;
 
 /// Whether a statement is accepted, or the first of the refusals that hold, in the order of their numbers.
 pub fn accept(definitions: &Definitions, statement: &Statement) -> Result<(), Refusal>

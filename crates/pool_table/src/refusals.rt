@@ -19,7 +19,12 @@ fn refused_if(holds: bool, refusal: Refusal) -> Option<Refusal>
     if holds { Some(refusal) } else { None }
 }
 
-fn total_out_of_range(definitions: &Definitions, name: Name, change: &PoolChange, row: &PoolRow) -> Option<Refusal>
+fn total_out_of_range(
+    definitions: &Definitions,
+    name: Name,
+    change: &PoolChange,
+    row: &PoolRow,
+) -> Option<Refusal>
     requires sound { IsSound definitions.now }
     requires in_range { IsTrue (is_pool_in_range row.now) }
     ensures { result ≡ total_out_of_range (with_pool definitions.now row.now) name change.now }
@@ -147,7 +152,12 @@ pub fn create_refusal(definitions: &Definitions, name: Name, row: &PoolRow) -> O
 }
 
 /// Why a pool is not altered to this row.
-pub fn alter_refusal(definitions: &Definitions, name: Name, change: &PoolChange, row: &PoolRow) -> Option<Refusal>
+pub fn alter_refusal(
+    definitions: &Definitions,
+    name: Name,
+    change: &PoolChange,
+    row: &PoolRow,
+) -> Option<Refusal>
     requires sound { IsSound definitions.now }
     requires in_range { IsTrue (is_pool_in_range row.now) }
     ensures { result ≡ alter_refusal definitions.now name change.now row.now }

@@ -11,9 +11,9 @@ use crate::chains::chain_ends;
 use crate::rows::{pool_called, reserved, total};
 use rm_base::definitions::Definitions;
 use rm_base::limits::{
-    CHAIN_MOST, CHANGES_MOST, CONCURRENCY_MOST, CORES_MOST, GRANTS_MOST, MEMORY_LEAST,
-    MEMORY_MOST, POOLS_MOST, PRIORITY_MOST, ROLES_MOST, SPAN_MOST, THRESHOLD_SECONDS_MOST,
-    TOTAL_LEAST, USERS_MOST,
+    CHAIN_MOST, CHANGES_MOST, CONCURRENCY_MOST, CORES_MOST, GRANTS_MOST, MEMORY_LEAST, MEMORY_MOST,
+    POOLS_MOST, PRIORITY_MOST, ROLES_MOST, SPAN_MOST, THRESHOLD_SECONDS_MOST, TOTAL_LEAST,
+    USERS_MOST,
 };
 use rm_base::name::Name;
 use rm_base::rows::{GrantRow, PoolRow, RoleRow, UserRow};
@@ -61,8 +61,7 @@ fn are_names_right(definitions: &Definitions) -> bool
     let users = definitions.users.rows();
     begins_with_general(pools)
         && (has_user(users, Name::dbadmin())
-            && (are_pools_distinct(pools)
-                && are_users_distinct(users, definitions.roles.rows())))
+            && (are_pools_distinct(pools) && are_users_distinct(users, definitions.roles.rows())))
 }
 
 fn is_total_right(definitions: &Definitions) -> bool
