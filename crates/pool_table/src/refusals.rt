@@ -48,7 +48,7 @@ fn pool_missing(definitions: &Definitions, name: Name) -> Option<Refusal>
     ensures { result ≡ pool_missing definitions.now name }
 {
     let found = pool_called(definitions.pools.rows(), name);
-    refused_if(!found.is_some(), Refusal::NoSuchPool(name))
+    refused_if(found.is_none(), Refusal::NoSuchPool(name))
 }
 
 fn general_reserves(name: Name, change: &PoolChange) -> Option<Refusal>
@@ -89,7 +89,7 @@ fn target_missing(definitions: &Definitions, row: &PoolRow) -> Option<Refusal>
         None => None,
         Some(target) => {
             let found = called_after(definitions.pools.rows(), row, target);
-            refused_if(!found.is_some(), Refusal::NoSuchTarget(target))
+            refused_if(found.is_none(), Refusal::NoSuchTarget(target))
         }
     }
 }

@@ -1,17 +1,15 @@
 -- Chains of CASCADE TO end after a statement, where they ended before and none through its pool is too long.
-use Rattle.std.specs.Prelude.{◌≡◌, ℕ, zero, suc, ◌+◌, ◌≤◌, ◌<◌, Bool, true, false, ◌&&◌, ◌||◌, not, cond, List, [], ◌∷◌, length, Option, Some, None, is_some, option_and_then, max, refl}
+use Rattle.std.specs.Prelude.{◌≡◌, ℕ, zero, suc, ◌≤◌, ◌<◌, Bool, true, false, ◌||◌, cond, List, [], ◌∷◌, length, Option, Some, None, is_some, option_and_then, max, refl}
 use Rattle.std.specs.List.{list_all, list_any}
 use Rattle.std.proofs.Common.{sym, ap, ◌∙◌, subst, arith}
 use Rattle.std.proofs.lemmas.Bool.{false≢true}
 use Rattle.rm_base.specs.declared.rows.PoolRow.{PoolRow}
 use Rattle.rm_base.specs.declared.name.Name.{Name}
 use Rattle.rm_base.specs.Name.{same_name}
-use Rattle.rm_base.proofs.Names.{same_name-refl}
 use Rattle.rm_rules.specs.Definitions.{pool_called}
 use Rattle.rm_rules.specs.Sound.{passes_if_set, chain_ends}
-use Rattle.rm_rules.specs.Acceptance.{with_row, chain, cascade_of, length_through}
+use Rattle.rm_rules.specs.Acceptance.{chain, cascade_of, length_through}
 use Rattle.rm_rules.proofs.Taken.{and_left, and_right, and_both, all_found, or_left_false, or_right_false}
-use Rattle.rm_rules.proofs.AcceptancePools.{all_with, called_with, there_with}
 
 -- the pool to which another cascades is there
 abbrev pub target_there : List PoolRow → Option Name → Bool

@@ -1,6 +1,6 @@
 -- What is accepted leads from sound definitions to sound ones, and counts one change.
-use Rattle.std.specs.Prelude.{◌≡◌, ℕ, zero, suc, ◌+◌, ◌-◌, ◌*◌, ◌/◌, ◌≤◌, ◌<◌, Bool, true, false, cond, ◌&&◌, ◌||◌, not, ◌==◌, nat_lt, nat_le, List, [], ◌∷◌, length, map, Option, Some, None, Result, Ok, Err, is_ok, is_some, unwrap_or, option_map, max, refl}
-use Rattle.std.specs.List.{list_all, list_any}
+use Rattle.std.specs.Prelude.{◌≡◌, ℕ, zero, suc, ◌+◌, ◌-◌, ◌*◌, ◌/◌, ◌≤◌, ◌<◌, Bool, true, false, cond, ◌&&◌, ◌||◌, not, ◌==◌, nat_lt, nat_le, List, [], ◌∷◌, length, Option, Some, None, Ok, is_ok, is_some, unwrap_or, option_map, max, refl}
+use Rattle.std.specs.List.{list_all}
 use Rattle.std.proofs.Common.{sym, ap, ◌∙◌, subst, arith}
 use Rattle.std.proofs.lemmas.Bool.{false≢true, leb-true}
 use Rattle.std.proofs.lemmas.Bool.Decides.{nat_tests}
@@ -16,11 +16,11 @@ use Rattle.rm_base.specs.declared.statement.Statement.TheVariants.{CreatePool, A
 use Rattle.rm_base.specs.declared.refusal.Refusal.{Refusal}
 use Rattle.rm_base.specs.Name.{same_name, general}
 use Rattle.rm_base.specs.Definitions.{default_pool_row}
-use Rattle.rm_base.proofs.Names.{same_name-refl, same_name-eq, same_name-sym}
+use Rattle.rm_base.proofs.Names.{same_name-refl, same_name-eq}
 use Rattle.rm_rules.specs.Definitions.{pool_called, pool_row, user_called, role_called, total, reserved}
 use Rattle.rm_rules.specs.Sound.{IsSound, passes_if_set, is_between, is_pool_in_range, is_within_max, has_pool, chain_ends, is_grant_known, begins_with_general}
-use Rattle.rm_rules.specs.Acceptance.{IsWellFormed, is_pool_statement, is_pool_change_in_range, bytes_of, changed_row, created_row, altered_row, with_row, with_pool, refused_if, first_refusal, total_out_of_range, name_taken, pool_missing, general_reserves, max_below_memory, general_too_small, target_missing, chain, cascade_loop, length_through, longest_through, chain_too_long, pools_full, changes_full, outcome_refusal, create_refusal, alter_refusal, unless_refused, accepted}
-use Rattle.rm_rules.proofs.Taken.{and_left, and_right, and_both, all_found, found_passes, not_false, not_true, or_left_false}
+use Rattle.rm_rules.specs.Acceptance.{IsWellFormed, is_pool_statement, is_pool_change_in_range, bytes_of, created_row, altered_row, with_row, with_pool, refused_if, first_refusal, total_out_of_range, name_taken, pool_missing, general_reserves, max_below_memory, general_too_small, target_missing, chain, cascade_loop, length_through, longest_through, chain_too_long, pools_full, changes_full, outcome_refusal, create_refusal, alter_refusal, unless_refused, accepted}
+use Rattle.rm_rules.proofs.Taken.{and_left, and_right, and_both, all_found, found_passes, not_true}
 use Rattle.rm_rules.proofs.Known.{general-there}
 use Rattle.rm_rules.proofs.AcceptancePools.{all_with, called_with, there_with, distinct_with, length_with-there, length_with-most, first_with}
 use Rattle.rm_rules.proofs.AcceptanceChains.{target_there, longest, each_ends}
@@ -185,9 +185,9 @@ sound-with d row sound let_in =
       quarter_left = quarter;
       chains_end = chains-with d row sound free;
       user_pools_there = all_wider (λ u. passes_if_set (has_pool d) u.pool) (λ u. passes_if_set (has_pool (with_pool d row)) u.pool) d.users
-        (λ u. set_wider (has_pool d) (has_pool (with_pool d row)) u.pool (has_pool-with d row)) sound.user_pools_there;
+          (λ u. set_wider (has_pool d) (has_pool (with_pool d row)) u.pool (has_pool-with d row)) sound.user_pools_there;
       role_pools_there = all_wider (λ r. passes_if_set (has_pool d) r.pool) (λ r. passes_if_set (has_pool (with_pool d row)) r.pool) d.roles
-        (λ r. set_wider (has_pool d) (has_pool (with_pool d row)) r.pool (has_pool-with d row)) sound.role_pools_there;
+          (λ r. set_wider (has_pool d) (has_pool (with_pool d row)) r.pool (has_pool-with d row)) sound.role_pools_there;
       grants_known = all_wider (is_grant_known d) (is_grant_known (with_pool d row)) d.grants (grant-known d row) sound.grants_known;
       grants_distinct = sound.grants_distinct;
     }

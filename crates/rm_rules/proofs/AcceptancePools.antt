@@ -1,5 +1,5 @@
 -- Lemmas on the pools with one more row, or with another in its place.
-use Rattle.std.specs.Prelude.{◌≡◌, ℕ, ◌+◌, ◌≤◌, Bool, true, false, ◌&&◌, ◌||◌, not, cond, ◌==◌, List, [], ◌∷◌, length, Option, Some, None, is_some, unwrap_or, sum_by, refl}
+use Rattle.std.specs.Prelude.{◌≡◌, ℕ, ◌+◌, ◌≤◌, Bool, true, false, ◌||◌, not, cond, ◌==◌, List, [], ◌∷◌, length, Option, Some, is_some, unwrap_or, sum_by, refl}
 use Rattle.std.specs.List.{list_all, list_any}
 use Rattle.std.proofs.Common.{sym, ap, ◌∙◌, subst, arith}
 use Rattle.std.proofs.lemmas.Bool.{false≢true}
@@ -12,7 +12,7 @@ use Rattle.rm_base.proofs.Names.{same_name-eq}
 use Rattle.rm_rules.specs.Definitions.{pool_called}
 use Rattle.rm_rules.specs.Sound.{are_distinct, begins_with_general}
 use Rattle.rm_rules.specs.Acceptance.{with_row}
-use Rattle.rm_rules.proofs.Taken.{and_left, and_right, and_both, not_false}
+use Rattle.rm_rules.proofs.Taken.{and_left, and_right, and_both}
 use Rattle.rm_rules.proofs.Pools.{names}
 
 -- what all rows pass, all pass with a row that passes
