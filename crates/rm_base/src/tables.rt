@@ -1,4 +1,4 @@
-ghost use Rattle.std.specs.Prelude.{◌≡◌, ◌<◌, ◌≤◌, List, [], ◌∷◌, ◌++◌, length, vec_len, vec_capacity, IfOk};
+ghost use Rattle.std.specs.Prelude.{◌≡◌, ◌<◌, ◌≤◌, List, [], ◌∷◌, ◌++◌, length, slice_set, vec_len, vec_capacity, IfOk};
 ghost use Rattle.rm_base.specs.declared.limits.TheConstants.{POOLS_MOST, USERS_MOST, ROLES_MOST, GRANTS_MOST};
 
 use crate::limits::{GRANTS_MOST, POOLS_MOST, ROLES_MOST, USERS_MOST};
@@ -54,6 +54,14 @@ impl Pools {
         ensures { self.new ≡ self.old ++ row ∷ [] }
     {
         self.rows.push_reserved(row);
+    }
+
+    /// Puts a row in the place of the one that stands there.
+    pub fn set(&mut self, index: usize, row: PoolRow)
+        requires { index < length self.old }
+        ensures { self.new ≡ slice_set self.old index row }
+    {
+        self.rows[index] = row;
     }
 }
 

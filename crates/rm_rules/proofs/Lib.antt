@@ -8,3 +8,7 @@ pub mod Conserved
 pub mod Moving
 pub mod Changing
 pub mod Laws
+pub mod AcceptancePools
+pub mod AcceptanceChains
+pub mod AcceptanceRanges
+pub mod AcceptanceLaws

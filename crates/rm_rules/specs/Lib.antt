@@ -8,3 +8,4 @@ pub mod Step
 pub mod Sound
 pub mod Healthy
 pub mod Conserved
+pub mod Acceptance

@@ -1,5 +1,6 @@
 //! The rules of the pool machine: its definitions, in `specs/`, and the laws over them.
 #![tactic(auto)]
 
+pub mod acceptance;
 pub mod history;
 pub mod state;

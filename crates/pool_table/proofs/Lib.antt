@@ -1,0 +1,6 @@
+pub mod RowsAfter
+pub mod ChainsAfter
+pub mod FirstRefusal
+pub mod Places
+pub mod Sizes
+pub mod SoundParts

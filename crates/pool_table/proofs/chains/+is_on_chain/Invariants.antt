@@ -1,0 +1,4 @@
+use Rattle.pool_table.proofs.chains.+is_on_chain.Given as goal
+
+abbrev pub decreases-is_on_chain : goal.decreases-is_on_chain
+decreases-is_on_chain l = l.most

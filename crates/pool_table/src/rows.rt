@@ -1,0 +1,138 @@
+//! The row that a statement leaves of its pool.
+ghost use Rattle.std.specs.Prelude.{◌≡◌, ◌*◌, ◌≤◌, IsTrue, unwrap_or, option_map};
+ghost use Rattle.std.specs.List.{list_all};
+ghost use Rattle.rm_base.specs.declared.limits.TheConstants.{MEMORY_MOST, POOLS_MOST};
+ghost use Rattle.rm_rules.specs.Definitions.{pool_called, pool_row, total, reserved};
+ghost use Rattle.rm_rules.specs.Sound.{IsSound};
+ghost use Rattle.rm_base.specs.Ranges.{is_pool_in_range};
+ghost use Rattle.rm_rules.specs.Acceptance.{is_pool_change_in_range, bytes_of, max_whole, changed_row, created_row, altered_row};
+
+use rm_base::definitions::{Definitions, default_pool_row};
+use rm_base::name::Name;
+use rm_base::rows::PoolRow;
+use rm_base::statement::{PoolChange, Size};
+
+pub fn pool_called(rows: &[PoolRow], name: Name) -> Option<PoolRow>
+    ensures { result ≡ pool_called rows.now name }
+{
+    rows.iter().copied().find(|r| r.name.same(name))
+}
+
+/// The pool's row; a pool that is not there is read as one with all defaults.
+pub fn pool_row(definitions: &Definitions, name: Name) -> PoolRow
+    ensures { result ≡ pool_row definitions.now name }
+{
+    pool_called(definitions.pools.rows(), name).unwrap_or(default_pool_row(name))
+}
+
+/// The total, in bytes.
+#[tactic(auto, using(crate::proofs::Sizes::total_most))]
+pub fn total(definitions: &Definitions) -> u64
+    requires memory { definitions.now.memory ≤ MEMORY_MOST }
+    requires pools { IsTrue (list_all is_pool_in_range definitions.now.pools) }
+    ensures value { result ≡ total definitions.now }
+    ensures most { result ≤ MEMORY_MOST }
+{
+    pool_row(definitions, Name::general())
+        .max
+        .unwrap_or(95 * definitions.memory / 100)
+}
+
+/// What the pools reserve, in bytes.
+pub fn reserved(definitions: &Definitions) -> u64
+    requires { IsTrue (list_all is_pool_in_range definitions.now.pools) }
+    ensures value { result ≡ reserved definitions.now }
+    ensures most { result ≤ POOLS_MOST * MEMORY_MOST }
+{
+    definitions.pools.rows().iter().map(|r| r.memory).sum()
+}
+
+fn bytes_of(whole: u64, size: Size) -> u64
+    requires { whole ≤ MEMORY_MOST }
+    ensures { result ≡ bytes_of whole size }
+{
+    match size {
+        Size::Bytes(bytes) => bytes,
+        Size::Percent(percent) => u64::from(percent) * whole / 100,
+    }
+}
+
+/// A named size in bytes, or the one that was there.
+fn size_or(whole: u64, named: Option<Size>, had: u64) -> u64
+    requires { whole ≤ MEMORY_MOST }
+    ensures { result ≡ unwrap_or (option_map (bytes_of whole) named) had }
+{
+    match named {
+        None => had,
+        Some(size) => bytes_of(whole, size),
+    }
+}
+
+/// A named limit in bytes, or the one that was there.
+fn limit_or(whole: u64, named: Option<Option<Size>>, had: Option<u64>) -> Option<u64>
+    requires { whole ≤ MEMORY_MOST }
+    ensures { result ≡ unwrap_or (option_map (option_map (bytes_of whole)) named) had }
+{
+    match named {
+        None => had,
+        Some(None) => None,
+        Some(Some(size)) => Some(bytes_of(whole, size)),
+    }
+}
+
+/// What a percentage of the pool's MAXMEMORYSIZE is taken of.
+fn max_whole(definitions: &Definitions, name: Name) -> u64
+    requires { IsSound definitions.now }
+    ensures value { result ≡ max_whole definitions.now name }
+    ensures most { result ≤ MEMORY_MOST }
+{
+    let total = total(definitions);
+    if name.same(Name::general()) {
+        definitions.memory
+    } else {
+        total
+    }
+}
+
+fn changed_row(definitions: &Definitions, row: &PoolRow, change: &PoolChange) -> PoolRow
+    requires { IsSound definitions.now }
+    ensures { result ≡ changed_row definitions.now row.now change.now }
+{
+    let total = total(definitions);
+    let max_whole = max_whole(definitions, row.name);
+    PoolRow {
+        name: row.name,
+        memory: size_or(total, change.memory, row.memory),
+        max: limit_or(max_whole, change.max, row.max),
+        query_max: limit_or(total, change.query_max, row.query_max),
+        parallel: change.parallel.unwrap_or(row.parallel),
+        priority: change.priority.unwrap_or(row.priority),
+        runtime_priority: change.runtime_priority.unwrap_or(row.runtime_priority),
+        threshold_s: change.threshold_s.unwrap_or(row.threshold_s),
+        queue_ms: change.queue_ms.unwrap_or(row.queue_ms),
+        planned: change.planned.unwrap_or(row.planned),
+        concurrency: change.concurrency.unwrap_or(row.concurrency),
+        cap_ms: change.cap_ms.unwrap_or(row.cap_ms),
+        cascade: change.cascade.unwrap_or(row.cascade),
+    }
+}
+
+/// The row of a created pool.
+pub fn created_row(definitions: &Definitions, name: Name, change: &PoolChange) -> PoolRow
+    requires sound { IsSound definitions.now }
+    requires formed { IsTrue (is_pool_change_in_range change.now) }
+    ensures value { result ≡ created_row definitions.now name change.now }
+    ensures in_range { IsTrue (is_pool_in_range result) }
+{
+    changed_row(definitions, &default_pool_row(name), change)
+}
+
+/// The row of an altered pool.
+pub fn altered_row(definitions: &Definitions, name: Name, change: &PoolChange) -> PoolRow
+    requires sound { IsSound definitions.now }
+    requires formed { IsTrue (is_pool_change_in_range change.now) }
+    ensures value { result ≡ altered_row definitions.now name change.now }
+    ensures in_range { IsTrue (is_pool_in_range result) }
+{
+    changed_row(definitions, &pool_row(definitions, name), change)
+}
