@@ -136,7 +136,7 @@ front o s ended.Done h e = absurd (omega (arith, e))
 front o s ended.Usage h e = absurd (omega (arith, e))
 front o s ended.BadLine h e = absurd (omega (arith, e))
 front o s ended.ReadFault h e = absurd (omega (arith, e))
-front o s ended.WriteFault h e = h.2
+front o s ended.WriteFault h e = h.3
 front o s ended.Memory h e = h.1
 front o s ended.TooLong h e = absurd (omega (arith, e))
 
@@ -148,3 +148,22 @@ known ended.ReadFault = inr (inr (inr (inl refl)))
 known ended.WriteFault = inr (inr (inr (inr (inl refl))))
 known ended.Memory = inr (inr (inr (inr (inr (inl refl)))))
 known ended.TooLong = inr (inr (inr (inr (inr (inr refl)))))
+
+never_whole : (o : Option Options) (s : Streams) (status : ℕ) → IsSome o → WroteWhole o s status → (TOO_LONG ≡ status → ⊥)
+    → IfSome s.left (λ bytes. SCRIPT_MOST < length bytes → (status ≡ USAGE) ⊎ ((status ≡ READ_FAULT) ⊎ ((status ≡ NO_MEMORY) ⊎ (status ≡ TOO_LONG))))
+never_whole None s status some whole other = absurd (false≢true some)
+never_whole (Some o) s status some whole other =
+    if_some s.left _ (λ bytes told long.
+      let w = at_some s.left (λ b. Appends s.written s.written_now (script_with (Some o) b).text × ((script_with (Some o) b).status ≡ status)) bytes whole told in
+      absurd (other (sym (ap (λ (e : ScriptEnd). e.status) (too_long-script o bytes long)) ∙ w.1)))
+
+-- a script that is too long is not run
+pub never_run : (o : Option Options) (s : Streams) (e : Ended) → EndsAs o s e
+    → IfSome s.left (λ bytes. SCRIPT_MOST < length bytes → (status_of e ≡ USAGE) ⊎ ((status_of e ≡ READ_FAULT) ⊎ ((status_of e ≡ NO_MEMORY) ⊎ (status_of e ≡ TOO_LONG))))
+never_run o s ended.Done h = never_whole o s DONE h.0 h.1 (omega arith)
+never_run o s ended.Usage h = always s.left _ (λ bytes long. inl refl)
+never_run o s ended.BadLine h = never_whole o s BAD_LINE h.0 h.1 (omega arith)
+never_run o s ended.ReadFault h = always s.left _ (λ bytes long. inr (inl refl))
+never_run o s ended.WriteFault h = if_some s.left _ (λ bytes told long. let short = at_some s.left (λ b. length b ≤ SCRIPT_MOST) bytes h.2 told in absurd (omega (arith, short, long)))
+never_run o s ended.Memory h = always s.left _ (λ bytes long. inr (inr (inl refl)))
+never_run o s ended.TooLong h = always s.left _ (λ bytes long. inr (inr (inr refl)))

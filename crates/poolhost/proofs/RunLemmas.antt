@@ -161,7 +161,8 @@ pub lines-end_as : (options : Options) (s : Streams) (bytes : List ℕ) (r : Lin
     → LinesEnded s.written s.written_now s.writes s.writes_now (script_with (Some options) bytes).text (script_with (Some options) bytes).status r → EndsAs (Some options) s (ended_as r)
 lines-end_as options s bytes end.Whole whole h = (refl, whole-same s.left s.left_now bytes _ whole h)
 lines-end_as options s bytes end.BadLine whole h = (refl, whole-same s.left s.left_now bytes _ whole h)
-lines-end_as options s bytes end.WriteFault whole h = (refl, h.1, whole-same s.left s.left_now bytes _ whole h.0)
+lines-end_as options s bytes end.WriteFault whole h =
+    (refl, h.1, whole-same s.left s.left_now bytes (λ b. length b ≤ SCRIPT_MOST) whole whole.fits, whole-same s.left s.left_now bytes _ whole h.0)
 lines-end_as options s bytes end.Memory whole h = (refl, whole-same s.left s.left_now bytes _ whole h)
 
 -- what the lines of a script left, the script left

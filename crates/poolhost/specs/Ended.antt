@@ -1,6 +1,7 @@
 -- How a script ends, and what its end leaves.
-use Rattle.std.specs.Prelude.{◌≡◌, ℕ, List, Option, Some, None, IsSome, IfSome}
+use Rattle.std.specs.Prelude.{◌≡◌, ◌≤◌, ℕ, length, List, Option, Some, None, IsSome, IfSome}
 use Rattle.std.specs.Io.KnownBytes.{Appends, Keeps}
+use Rattle.rm_base.specs.declared.limits.TheConstants.{SCRIPT_MOST}
 use Rattle.rm_outside.specs.Faults.{Rose}
 use Rattle.poolhost.specs.declared.ended.Ended.{Ended}
 use Rattle.poolhost.specs.declared.ended.Ended.TheVariants as ended
@@ -55,12 +56,16 @@ WroteWhole options s status = IfSome s.left (λ bytes. Appends s.written s.writt
 abbrev pub WrotePart : Option Options → Streams → Type 0
 WrotePart options s = IfSome s.left (λ bytes. WroteFront s.written s.written_now (script_with options bytes).text)
 
+-- the script is no longer than a script may be
+abbrev pub IsShort : Streams → Type 0
+IsShort s = IfSome s.left (λ bytes. length bytes ≤ SCRIPT_MOST)
+
 -- what a script with these options, or with none, leaves where it ends so
 abbrev pub EndsAs : Option Options → Streams → Ended → Type 0
 EndsAs options s ended.Done = IsSome options × WroteWhole options s DONE
 EndsAs options s ended.Usage = (options ≡ None) × Keeps s.written s.written_now
 EndsAs options s ended.BadLine = IsSome options × WroteWhole options s BAD_LINE
 EndsAs options s ended.ReadFault = IsSome options × Rose s.reads s.reads_now × Keeps s.written s.written_now
-EndsAs options s ended.WriteFault = IsSome options × Rose s.writes s.writes_now × WrotePart options s
+EndsAs options s ended.WriteFault = IsSome options × Rose s.writes s.writes_now × IsShort s × WrotePart options s
 EndsAs options s ended.Memory = IsSome options × WrotePart options s
 EndsAs options s ended.TooLong = IsSome options × IsTooLong s.left s.left_now × Keeps s.written s.written_now

@@ -359,3 +359,10 @@ fresh-sound memory cores memory_least memory_most cores_least cores_most = recor
   grants_known = refl;
   grants_distinct = refl;
 }
+
+-- the empty history is legal, and leaves the state as it is
+pub legal-nil : (s : State) → IsLegal s []
+legal-nil s = tt
+
+pub replay-nil : (s : State) → replay s [] ≡ s
+replay-nil s = refl
