@@ -1,6 +1,6 @@
 -- Chains, a pool at a time.
-use Rattle.std.specs.Prelude.{◌≡◌, ℕ, zero, suc, ◌+◌, ◌-◌, ◌<◌, ◌≤◌, Bool, true, false, ◌&&◌, ◌||◌, not, cond, List, [], ◌∷◌, length, map, Option, Some, None, max, drop, refl}
-use Rattle.std.specs.List.{list_any, list_all}
+use Rattle.std.specs.Prelude.{◌≡◌, ℕ, zero, suc, ◌+◌, ◌-◌, ◌<◌, Bool, true, false, ◌||◌, not, cond, List, [], ◌∷◌, length, map, Option, Some, None, max, refl}
+use Rattle.std.specs.List.{list_any}
 use Rattle.std.proofs.Common.{sym, ap, ◌∙◌, subst, arith}
 use Rattle.std.proofs.lemmas.Bool.{false≢true}
 use Rattle.rm_base.specs.declared.rows.PoolRow.{PoolRow}
@@ -10,7 +10,7 @@ use Rattle.rm_base.proofs.Names.{same_name-eq, same_name-sym}
 use Rattle.rm_rules.specs.Definitions.{pool_called}
 use Rattle.rm_rules.specs.Sound.{are_distinct, chain_ends}
 use Rattle.rm_rules.specs.Acceptance.{with_row, chain, cascade_of, chain_from, length_through, longest_through}
-use Rattle.pool_table.specs.Longest.{other_length, longest_of_others}
+use Rattle.pool_table.specs.Longest.{longest_of_others}
 use Rattle.rm_rules.proofs.Taken.{and_left, and_right, not_false, or_left_false, or_right_false}
 use Rattle.rm_rules.proofs.AcceptanceChains.{chain-some, chain-none}
 

@@ -1,5 +1,5 @@
 -- How large the total and the reservations can be.
-use Rattle.std.specs.Prelude.{◌≡◌, ℕ, ◌+◌, ◌*◌, ◌/◌, ◌≤◌, Bool, true, ◌&&◌, nat_le, List, [], ◌∷◌, length, Option, Some, None, unwrap_or, find, sum_by, refl}
+use Rattle.std.specs.Prelude.{◌≡◌, ℕ, ◌*◌, ◌/◌, ◌≤◌, true, nat_le, List, [], ◌∷◌, length, Option, Some, None, unwrap_or, sum_by, refl}
 use Rattle.std.specs.List.{list_all}
 use Rattle.std.proofs.Common.{arith}
 use Rattle.std.proofs.lemmas.Bool.{leb-true}
@@ -12,7 +12,7 @@ use Rattle.rm_base.specs.Name.{same_name, general}
 use Rattle.rm_base.specs.Definitions.{default_pool_row}
 use Rattle.rm_rules.specs.Definitions.{pool_called, pool_row, total, reserved}
 use Rattle.rm_rules.specs.Sound.{IsSound}
-use Rattle.rm_base.specs.Ranges.{passes_if_set, is_between, is_pool_in_range}
+use Rattle.rm_base.specs.Ranges.{passes_if_set, is_pool_in_range}
 use Rattle.rm_rules.proofs.Taken.{and_left, and_right, all_found}
 
 memory-most : (r : PoolRow) → is_pool_in_range r ≡ true → r.memory ≤ MEMORY_MOST

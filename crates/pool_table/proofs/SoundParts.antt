@@ -1,14 +1,14 @@
 -- Soundness, from its parts and back.
-use Rattle.std.specs.Prelude.{◌≡◌, ℕ, ◌≤◌, ◌↔◌, ◌-◌, ◌*◌, ◌++◌, Bool, true, false, ◌&&◌, nat_le, List, is_some, length, map, IsTrue, refl}
+use Rattle.std.specs.Prelude.{◌≡◌, ℕ, ◌≤◌, ◌-◌, ◌*◌, Bool, true, false, ◌&&◌, nat_le, is_some, length, map}
 use Rattle.std.specs.List.{list_all}
-use Rattle.std.proofs.Common.{sym, ap, ◌∙◌, arith}
+use Rattle.std.proofs.Common.{sym, ◌∙◌, arith}
 use Rattle.std.proofs.lemmas.Bool.{leb-true, false≢true}
 use Rattle.std.proofs.lemmas.Bool.Decides.{nat_tests}
 use Rattle.rm_base.specs.declared.limits.TheConstants.{MEMORY_LEAST, MEMORY_MOST, TOTAL_LEAST, CORES_MOST, CHANGES_MOST, CHAIN_MOST, POOLS_MOST, USERS_MOST, ROLES_MOST, GRANTS_MOST}
 use Rattle.rm_base.specs.declared.definitions.Definitions.{Definitions}
 use Rattle.rm_base.specs.Name.{dbadmin}
 use Rattle.rm_rules.specs.Definitions.{total, reserved, user_called}
-use Rattle.rm_rules.specs.Sound.{IsSound, begins_with_general, are_distinct, is_within_max, has_pool, chain_ends, is_grant_known, are_grants_distinct}
+use Rattle.rm_rules.specs.Sound.{IsSound, begins_with_general, are_distinct, has_pool, chain_ends, is_grant_known}
 use Rattle.rm_base.specs.Ranges.{passes_if_set, is_between, is_pool_in_range, is_user_in_range}
 use Rattle.rm_rules.proofs.Taken.{and_left, and_right, and_both}
 use Rattle.pool_table.specs.Soundness.{are_numbers_in_range, are_counts_in_range, are_values_in_range, are_names_right, is_total_right, are_links_right}

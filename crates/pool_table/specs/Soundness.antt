@@ -1,5 +1,5 @@
 -- The parts of soundness, each as a test.
-use Rattle.std.specs.Prelude.{ℕ, ◌-◌, ◌*◌, Bool, ◌&&◌, nat_le, List, ◌++◌, is_some, length, map}
+use Rattle.std.specs.Prelude.{◌-◌, ◌*◌, Bool, ◌&&◌, nat_le, ◌++◌, is_some, length, map}
 use Rattle.std.specs.List.{list_all}
 use Rattle.rm_base.specs.declared.limits.TheConstants.{MEMORY_LEAST, MEMORY_MOST, TOTAL_LEAST, CORES_MOST, CHANGES_MOST, CHAIN_MOST, POOLS_MOST, USERS_MOST, ROLES_MOST, GRANTS_MOST}
 use Rattle.rm_base.specs.declared.definitions.Definitions.{Definitions}

@@ -128,6 +128,14 @@ fn tried(
     Ok(())
 }
 
+fn create(name: Name, change: PoolChange) -> Statement {
+    Statement::CreatePool(name, change)
+}
+
+fn alter(name: Name, change: PoolChange) -> Statement {
+    Statement::AlterPool(name, change)
+}
+
 fn memory(size: Size) -> PoolChange {
     PoolChange {
         memory: Some(size),
@@ -161,76 +169,56 @@ fn mib(n: u32) -> Size {
     Size::Bytes(u64::from(n) * MIB)
 }
 
-/// The total is 99,614,720 bytes at first, and 83,886,080 from GENERAL's MAXMEMORYSIZE '80M' on.
+fn bytes(n: u64) -> Size {
+    Size::Bytes(n)
+}
+
+fn percent(n: u8) -> Size {
+    Size::Percent(n)
+}
+
+fn too_small(left: u64) -> Result<(), Refusal> {
+    Err(Refusal::GeneralTooSmall(left, 20_971_520))
+}
+
+fn below_memory(max: u64, memory: u64) -> Result<(), Refusal> {
+    Err(Refusal::MaxBelowMemory(max, memory))
+}
+
+const OUT_OF_RANGE: Result<(), Refusal> = Err(Refusal::Range(Parameter::MaxMemorySize));
+
+const BUILT_IN: Result<(), Refusal> = Err(Refusal::BuiltIn);
+
+/// The total is 99,614,720 bytes at first, and 83,886,080 from GENERAL's MAXMEMORYSIZE on.
 #[test]
 fn answers_by_the_rules(rt: HostRuntime) -> Result<(), Fail> {
     let general = Name::general();
     let p = Name::of("p").ok_or("p")?;
     let q = Name::of("q").ok_or("q")?;
-    let out_of_range = Err(Refusal::Range(Parameter::MaxMemorySize));
     let cases = [
+        (alter(general, max(bytes(1_024))), OUT_OF_RANGE),
+        (alter(general, max(bytes(MIB - 1))), OUT_OF_RANGE),
+        (alter(general, max(mib(101))), OUT_OF_RANGE),
+        (alter(general, both(mib(1), bytes(1_024))), OUT_OF_RANGE),
+        (alter(general, both(mib(1), mib(80))), BUILT_IN),
+        (alter(general, memory(percent(0))), BUILT_IN),
+        (create(general, max(bytes(1_024))), Err(Refusal::NameTaken)),
+        (alter(p, NOTHING), Err(Refusal::NoSuchPool(p))),
+        (alter(general, max(percent(80))), Ok(())),
+        (alter(general, NOTHING), Ok(())),
+        (create(p, memory(mib(61))), too_small(19_922_944)),
         (
-            Statement::AlterPool(general, max(Size::Bytes(1024))),
-            out_of_range,
+            create(p, both(mib(20), mib(10))),
+            below_memory(10_485_760, 20_971_520),
         ),
+        (create(p, memory(mib(60))), Ok(())),
+        (create(q, memory(bytes(1))), too_small(20_971_519)),
+        (create(q, memory(percent(1))), too_small(20_132_660)),
+        (alter(p, max(mib(59))), below_memory(61_865_984, 62_914_560)),
+        (alter(p, both(percent(50), percent(50))), Ok(())),
         (
-            Statement::AlterPool(general, max(Size::Bytes(MIB - 1))),
-            out_of_range,
-        ),
-        (Statement::AlterPool(general, max(mib(101))), out_of_range),
-        (
-            Statement::AlterPool(general, both(mib(1), Size::Bytes(1024))),
-            out_of_range,
-        ),
-        (
-            Statement::AlterPool(general, both(mib(1), mib(80))),
-            Err(Refusal::BuiltIn),
-        ),
-        (
-            Statement::AlterPool(general, memory(Size::Percent(0))),
-            Err(Refusal::BuiltIn),
-        ),
-        (
-            Statement::CreatePool(general, max(Size::Bytes(1024))),
-            Err(Refusal::NameTaken),
-        ),
-        (
-            Statement::AlterPool(p, NOTHING),
-            Err(Refusal::NoSuchPool(p)),
-        ),
-        (
-            Statement::AlterPool(general, max(Size::Percent(80))),
-            Ok(()),
-        ),
-        (Statement::AlterPool(general, NOTHING), Ok(())),
-        (
-            Statement::CreatePool(p, memory(mib(61))),
-            Err(Refusal::GeneralTooSmall(19_922_944, 20_971_520)),
-        ),
-        (
-            Statement::CreatePool(p, both(mib(20), mib(10))),
-            Err(Refusal::MaxBelowMemory(10_485_760, 20_971_520)),
-        ),
-        (Statement::CreatePool(p, memory(mib(60))), Ok(())),
-        (
-            Statement::CreatePool(q, memory(Size::Bytes(1))),
-            Err(Refusal::GeneralTooSmall(20_971_519, 20_971_520)),
-        ),
-        (
-            Statement::CreatePool(q, memory(Size::Percent(1))),
-            Err(Refusal::GeneralTooSmall(20_132_660, 20_971_520)),
-        ),
-        (
-            Statement::AlterPool(p, max(mib(59))),
-            Err(Refusal::MaxBelowMemory(61_865_984, 62_914_560)),
-        ),
-        (
-            Statement::AlterPool(p, both(Size::Percent(50), Size::Percent(50))),
-            Ok(()),
-        ),
-        (
-            Statement::AlterPool(p, memory(Size::Percent(51))),
-            Err(Refusal::MaxBelowMemory(41_943_040, 42_781_900)),
+            alter(p, memory(percent(51))),
+            below_memory(41_943_040, 42_781_900),
         ),
     ];
     let mut definitions = Definitions::new(rt.alloc(), 100 * MIB, 8)?;
@@ -240,7 +228,7 @@ fn answers_by_the_rules(rt: HostRuntime) -> Result<(), Fail> {
     Ok(())
 }
 
-/// A cascade's target, the pool itself, a loop of three, and chains of eight and nine pools.
+/// A target that is not there, the pool itself, a loop of three, and chains of nine pools.
 #[test]
 fn answers_by_chains(rt: HostRuntime) -> Result<(), Fail> {
     let a = Name::of("a").ok_or("a")?;
@@ -252,38 +240,24 @@ fn answers_by_chains(rt: HostRuntime) -> Result<(), Fail> {
     let g = Name::of("g").ok_or("g")?;
     let h = Name::of("h").ok_or("h")?;
     let i = Name::of("i").ok_or("i")?;
+    let too_long = Err(Refusal::ChainTooLong(9));
     let cases = [
-        (
-            Statement::CreatePool(a, cascade(b)),
-            Err(Refusal::NoSuchTarget(b)),
-        ),
-        (
-            Statement::CreatePool(a, cascade(a)),
-            Err(Refusal::CascadeLoop(a)),
-        ),
-        (Statement::CreatePool(a, NOTHING), Ok(())),
-        (Statement::CreatePool(b, cascade(a)), Ok(())),
-        (Statement::CreatePool(c, cascade(b)), Ok(())),
-        (
-            Statement::AlterPool(a, cascade(c)),
-            Err(Refusal::CascadeLoop(a)),
-        ),
-        (Statement::CreatePool(d, cascade(c)), Ok(())),
-        (Statement::CreatePool(e, cascade(d)), Ok(())),
-        (Statement::CreatePool(f, cascade(e)), Ok(())),
-        (Statement::CreatePool(g, cascade(f)), Ok(())),
-        (Statement::AlterPool(a, cascade(Name::general())), Ok(())),
-        (
-            Statement::CreatePool(h, cascade(g)),
-            Err(Refusal::ChainTooLong(9)),
-        ),
-        (Statement::CreatePool(h, NOTHING), Ok(())),
-        (Statement::CreatePool(i, cascade(h)), Ok(())),
-        (
-            Statement::AlterPool(a, cascade(i)),
-            Err(Refusal::ChainTooLong(9)),
-        ),
-        (Statement::AlterPool(d, cascade(i)), Ok(())),
+        (create(a, cascade(b)), Err(Refusal::NoSuchTarget(b))),
+        (create(a, cascade(a)), Err(Refusal::CascadeLoop(a))),
+        (create(a, NOTHING), Ok(())),
+        (create(b, cascade(a)), Ok(())),
+        (create(c, cascade(b)), Ok(())),
+        (alter(a, cascade(c)), Err(Refusal::CascadeLoop(a))),
+        (create(d, cascade(c)), Ok(())),
+        (create(e, cascade(d)), Ok(())),
+        (create(f, cascade(e)), Ok(())),
+        (create(g, cascade(f)), Ok(())),
+        (alter(a, cascade(Name::general())), Ok(())),
+        (create(h, cascade(g)), too_long),
+        (create(h, NOTHING), Ok(())),
+        (create(i, cascade(h)), Ok(())),
+        (alter(a, cascade(i)), too_long),
+        (alter(d, cascade(i)), Ok(())),
     ];
     let mut definitions = Definitions::new(rt.alloc(), 100 * MIB, 8)?;
     for (statement, answer) in cases {
@@ -300,19 +274,18 @@ fn answers_where_a_table_is_full(rt: HostRuntime) -> Result<(), Fail> {
         let name = format!(in rt.alloc(); "p{n}")?;
         let pool = Name::of(&name).ok_or("pool")?;
         assert_eq!(rt;
-            tried(&rt, &mut definitions, &Statement::CreatePool(pool, NOTHING)),
+            tried(&rt, &mut definitions, &create(pool, NOTHING)),
             Ok(())
         );
     }
-    let last = Name::of("last").ok_or("last")?;
-    let create = Statement::CreatePool(last, NOTHING);
-    let alter = Statement::AlterPool(Name::general(), NOTHING);
+    let last = create(Name::of("last").ok_or("last")?, NOTHING);
+    let same = alter(Name::general(), NOTHING);
     let pools_full = Err(Refusal::TableFull(TableKind::Pools, 64));
     let changes_full = Err(Refusal::TableFull(TableKind::Changes, 4_096));
-    assert_eq!(rt; tried(&rt, &mut definitions, &create), pools_full);
+    assert_eq!(rt; tried(&rt, &mut definitions, &last), pools_full);
     definitions.changes = CHANGES_MOST - 1;
-    assert_eq!(rt; tried(&rt, &mut definitions, &alter), Ok(()));
-    assert_eq!(rt; tried(&rt, &mut definitions, &alter), changes_full);
-    assert_eq!(rt; tried(&rt, &mut definitions, &create), pools_full);
+    assert_eq!(rt; tried(&rt, &mut definitions, &same), Ok(()));
+    assert_eq!(rt; tried(&rt, &mut definitions, &same), changes_full);
+    assert_eq!(rt; tried(&rt, &mut definitions, &last), pools_full);
     Ok(())
 }

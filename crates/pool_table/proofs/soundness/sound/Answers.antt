@@ -1,6 +1,5 @@
 use Rattle.std.proofs.Common.{sym, ◌∙◌}
-use Rattle.rm_rules.specs.Sound.{IsSound}
-use Rattle.pool_table.proofs.SoundParts.{HasParts, parts-sound, sound-parts}
+use Rattle.pool_table.proofs.SoundParts.{parts-sound, sound-parts}
 use Rattle.pool_table.proofs.soundness.sound.Goals as goal
 
 pub returns-then-is_total_right : goal.returns-then-is_total_right
