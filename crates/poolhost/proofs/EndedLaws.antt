@@ -154,8 +154,8 @@ never_whole : (o : Option Options) (s : Streams) (status : ℕ) → IsSome o →
 never_whole None s status some whole other = absurd (false≢true some)
 never_whole (Some o) s status some whole other =
     if_some s.left _ (λ bytes told long.
-      let w = at_some s.left (λ b. Appends s.written s.written_now (script_with (Some o) b).text × ((script_with (Some o) b).status ≡ status)) bytes whole told in
-      absurd (other (sym (ap (λ (e : ScriptEnd). e.status) (too_long-script o bytes long)) ∙ w.1)))
+    let w = at_some s.left (λ b. Appends s.written s.written_now (script_with (Some o) b).text × ((script_with (Some o) b).status ≡ status)) bytes whole told in
+    absurd (other (sym (ap (λ (e : ScriptEnd). e.status) (too_long-script o bytes long)) ∙ w.1)))
 
 -- a script that is too long is not run
 pub never_run : (o : Option Options) (s : Streams) (e : Ended) → EndsAs o s e

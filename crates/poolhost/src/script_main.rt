@@ -118,10 +118,8 @@ pub fn script_main<S: Source, O: Sink, H: Shelf, P: Spool, K: Keeper>(
     ensures read_fault { result.0 ≡ READ_FAULT → Rose (S.faults input.old) (S.faults input.new) }
     ensures write_fault { result.0 ≡ WRITE_FAULT → Rose (O.faults out.old) (O.faults out.new) }
     ensures too_long { result.0 ≡ TOO_LONG → IsTooLong (S.left input.old) (S.left input.new) }
-    ensures never_run {
-        IfSome (S.left input.old) (λ bytes. SCRIPT_MOST < length bytes
-            → (result.0 ≡ USAGE) ⊎ ((result.0 ≡ READ_FAULT) ⊎ ((result.0 ≡ NO_MEMORY) ⊎ (result.0 ≡ TOO_LONG))))
-    }
+    ensures never_run { IfSome (S.left input.old) (λ bytes. SCRIPT_MOST < length bytes
+        → (result.0 ≡ USAGE) ⊎ ((result.0 ≡ READ_FAULT) ⊎ ((result.0 ≡ NO_MEMORY) ⊎ (result.0 ≡ TOO_LONG)))) }
     ensures known { (result.0 ≡ DONE) ⊎ ((result.0 ≡ USAGE) ⊎ ((result.0 ≡ BAD_LINE) ⊎ ((result.0 ≡ READ_FAULT) ⊎ ((result.0 ≡ WRITE_FAULT) ⊎ ((result.0 ≡ NO_MEMORY) ⊎ (result.0 ≡ TOO_LONG)))))) }
 
     // What was written, whatever was counted.

@@ -30,8 +30,14 @@ pub returns-clause-never_run : goal.returns-clause-never_run
 returns-clause-never_run g c =
     let o = options_of (map string_bytes c.args.words.now) in
     let s : Streams = record {
-      left = g.S.Source.left c.args.input.now; left_now = g.S.Source.left c.run_words.new.input; reads = g.S.Source.faults c.args.input.now; reads_now = g.S.Source.faults c.run_words.new.input;
-      written = g.O.Sink.written c.args.out.now; written_now = g.O.Sink.written c.run_words.new.out; writes = g.O.Sink.faults c.args.out.now; writes_now = g.O.Sink.faults c.run_words.new.out;
+      left = g.S.Source.left c.args.input.now;
+      left_now = g.S.Source.left c.run_words.new.input;
+      reads = g.S.Source.faults c.args.input.now;
+      reads_now = g.S.Source.faults c.run_words.new.input;
+      written = g.O.Sink.written c.args.out.now;
+      written_now = g.O.Sink.written c.run_words.new.out;
+      writes = g.O.Sink.faults c.args.out.now;
+      writes_now = g.O.Sink.faults c.run_words.new.out;
     } in
     subst (λ (n : ℕ). IfSome s.left (λ bytes. SCRIPT_MOST < length bytes → (n ≡ USAGE) ⊎ ((n ≡ READ_FAULT) ⊎ ((n ≡ NO_MEMORY) ⊎ (n ≡ TOO_LONG)))))
     (sym c.status_of.ensures) (never_run o s c.run_words.result c.run_words.ensures)
