@@ -1,0 +1,5 @@
+pub mod Class
+pub mod Word
+pub mod Scan
+pub mod Cut
+pub mod Token
