@@ -100,3 +100,43 @@ pub fn default_user_row(name: Name) -> UserRow
         cap_ms: None,
     }
 }
+
+#[cfg(test)]
+mod tests {
+    use super::*;
+    use std::test::Fail;
+
+    #[test]
+    fn begins_with_general_and_dbadmin(rt: HostRuntime) -> Result<(), Fail> {
+        let definitions = Definitions::new(rt.alloc(), 1_073_741_824, 16)?;
+        let general = PoolRow {
+            name: Name::of("general").ok_or("general")?,
+            memory: 0,
+            max: None,
+            query_max: None,
+            parallel: None,
+            priority: 0,
+            runtime_priority: Level::Medium,
+            threshold_s: 2,
+            queue_ms: Some(300_000),
+            planned: None,
+            concurrency: None,
+            cap_ms: None,
+            cascade: None,
+        };
+        let dbadmin = UserRow {
+            name: Name::of("dbadmin").ok_or("dbadmin")?,
+            pool: None,
+            memory_cap: None,
+            cap_ms: None,
+        };
+        assert_eq!(rt; definitions.pools.rows(), [general].as_slice());
+        assert_eq!(rt; definitions.users.rows(), [dbadmin].as_slice());
+        assert!(rt; definitions.roles.rows().is_empty());
+        assert!(rt; definitions.grants.rows().is_empty());
+        assert_eq!(rt; definitions.memory, 1_073_741_824);
+        assert_eq!(rt; definitions.cores, 16);
+        assert_eq!(rt; definitions.changes, 0);
+        Ok(())
+    }
+}

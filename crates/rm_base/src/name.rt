@@ -157,3 +157,58 @@ fn text_len(bytes: &[u8]) -> usize
     }
     bytes.len()
 }
+
+#[cfg(test)]
+mod tests {
+    use super::*;
+    use std::test::Fail;
+
+    #[test]
+    fn reads_names_in_any_case(rt: HostRuntime) -> Result<(), Fail> {
+        let cases = [
+            ("general", "general"),
+            ("A_1", "a_1"),
+            ("_", "_"),
+            ("select1", "select1"),
+            ("usage", "usage"),
+            (
+                "ABCDEFGHIJKLMNOPQRSTUVWXYZ_01234",
+                "abcdefghijklmnopqrstuvwxyz_01234",
+            ),
+        ];
+        for (text, kept) in cases {
+            let name = Name::of(text).ok_or(text)?;
+            assert_eq!(rt; name.as_str(), kept);
+            let written = name.to_string(rt.alloc())?;
+            assert_eq!(rt; written.as_str(), kept);
+        }
+        Ok(())
+    }
+
+    #[test]
+    fn reads_nothing_else_as_a_name(rt: HostRuntime) {
+        let cases = [
+            "",
+            "1a",
+            "a-b",
+            "a b",
+            "SELECT",
+            "Count",
+            "where",
+            "caf\u{e9}",
+            "\u{212a}",
+            "ABCDEFGHIJKLMNOPQRSTUVWXYZ_012345",
+        ];
+        for text in cases {
+            assert_eq!(rt; Name::of(text), None, "at {text}");
+        }
+    }
+
+    #[test]
+    fn knows_its_own_names(rt: HostRuntime) {
+        assert_eq!(rt; Name::of("GENERAL"), Some(Name::general()));
+        assert_eq!(rt; Name::of("dbAdmin"), Some(Name::dbadmin()));
+        assert!(rt; Name::general().same(Name::general()));
+        assert!(rt; !Name::general().same(Name::dbadmin()));
+    }
+}

@@ -176,3 +176,116 @@ impl fmt::Display for Refusal {
         }
     }
 }
+
+#[cfg(test)]
+mod tests {
+    use super::*;
+    use crate::reply::CapOwner;
+    use std::test::Fail;
+
+    #[test]
+    fn writes_each_refusal(rt: HostRuntime) -> Result<(), Fail> {
+        let etl = Name::of("etl").ok_or("etl")?;
+        let cases = [
+            (Refusal::Syntax(0), "refused 1 0"),
+            (Refusal::UnknownParameter(24), "refused 2 24"),
+            (Refusal::Repeated(Parameter::Cascade), "refused 3 CASCADE"),
+            (
+                Refusal::NotSupported(18446744073709551615),
+                "refused 4 18446744073709551615",
+            ),
+            (
+                Refusal::Range(Parameter::MaxMemorySize),
+                "refused 5 MAXMEMORYSIZE",
+            ),
+            (Refusal::NameTaken, "refused 6"),
+            (Refusal::NoSuchPool(etl), "refused 7 etl"),
+            (Refusal::NoSuchUser(etl), "refused 8 etl"),
+            (Refusal::NoSuchRole(etl), "refused 9 etl"),
+            (Refusal::BuiltIn, "refused 10"),
+            (Refusal::MaxBelowMemory(10, 20), "refused 11 10 20"),
+            (Refusal::GeneralTooSmall(3, 4), "refused 12 3 4"),
+            (Refusal::NoSuchTarget(etl), "refused 13 etl"),
+            (Refusal::CascadeLoop(etl), "refused 14 etl"),
+            (Refusal::ChainTooLong(9), "refused 15 9"),
+            (Refusal::Dependents(etl), "refused 16 etl"),
+            (
+                Refusal::TableFull(TableKind::Pools, 64),
+                "refused 17 pools 64",
+            ),
+            (Refusal::NotGranted(etl), "refused 18 etl"),
+            (
+                Refusal::TooLarge(CapKind::Query, 7, 5),
+                "refused 19 query 7 5",
+            ),
+            (Refusal::NoSuchSession, "refused 20"),
+            (Refusal::SessionBusy, "refused 21"),
+            (Refusal::NotLive, "refused 22"),
+            (Refusal::NoUsage(etl), "refused 23 etl"),
+            (Refusal::SessionsFull(128), "refused 24 128"),
+            (Refusal::JournalFull(65_536), "refused 25 65536"),
+            (Refusal::NoSuchTable(etl), "refused 26 etl"),
+            (Refusal::NoSuchColumn(etl), "refused 27 etl"),
+            (Refusal::Ambiguous(etl), "refused 28 etl"),
+            (Refusal::TypeClash(31), "refused 29 31"),
+            (Refusal::NotGrouped(7), "refused 30 7"),
+            (Refusal::TooManyTables(3), "refused 31 3"),
+        ];
+        for (refusal, text) in cases {
+            let written = refusal.to_string(rt.alloc())?;
+            assert_eq!(rt; written.as_str(), text);
+        }
+        Ok(())
+    }
+
+    #[test]
+    fn writes_each_word(rt: HostRuntime) -> Result<(), Fail> {
+        let parameters = [
+            (Parameter::MemorySize, "MEMORYSIZE"),
+            (Parameter::MaxMemorySize, "MAXMEMORYSIZE"),
+            (Parameter::MaxQueryMemorySize, "MAXQUERYMEMORYSIZE"),
+            (Parameter::ExecutionParallelism, "EXECUTIONPARALLELISM"),
+            (Parameter::Priority, "PRIORITY"),
+            (Parameter::RuntimePriority, "RUNTIMEPRIORITY"),
+            (
+                Parameter::RuntimePriorityThreshold,
+                "RUNTIMEPRIORITYTHRESHOLD",
+            ),
+            (Parameter::QueueTimeout, "QUEUETIMEOUT"),
+            (Parameter::PlannedConcurrency, "PLANNEDCONCURRENCY"),
+            (Parameter::MaxConcurrency, "MAXCONCURRENCY"),
+            (Parameter::RuntimeCap, "RUNTIMECAP"),
+            (Parameter::Cascade, "CASCADE"),
+            (Parameter::ResourcePool, "RESOURCE"),
+            (Parameter::MemoryCap, "MEMORYCAP"),
+        ];
+        for (parameter, word) in parameters {
+            let written = parameter.to_string(rt.alloc())?;
+            assert_eq!(rt; written.as_str(), word);
+        }
+        let kinds = format!(in rt.alloc();
+            "{} {} {}",
+            CapKind::Pool,
+            CapKind::Query,
+            CapKind::User
+        )?;
+        assert_eq!(rt; kinds.as_str(), "pool query user");
+        let owners = format!(in rt.alloc();
+            "{} {} {}",
+            CapOwner::User,
+            CapOwner::Session,
+            CapOwner::Pool
+        )?;
+        assert_eq!(rt; owners.as_str(), "user session pool");
+        let tables = format!(in rt.alloc();
+            "{} {} {} {} {}",
+            TableKind::Pools,
+            TableKind::Users,
+            TableKind::Roles,
+            TableKind::Grants,
+            TableKind::Changes
+        )?;
+        assert_eq!(rt; tables.as_str(), "pools users roles grants changes");
+        Ok(())
+    }
+}

@@ -209,3 +209,49 @@ impl Grants {
         self.rows.push_reserved(row);
     }
 }
+
+#[cfg(test)]
+mod tests {
+    use super::*;
+    use crate::definitions::{default_pool_row, default_user_row};
+    use crate::name::Name;
+    use std::test::Fail;
+
+    #[test]
+    fn keeps_rows_in_order(rt: HostRuntime) -> Result<(), Fail> {
+        let (general, dbadmin) = (Name::general(), Name::dbadmin());
+        let mut pools = Pools::new(rt.alloc())?;
+        pools.add(default_pool_row(dbadmin));
+        pools.add(default_pool_row(general));
+        assert_eq!(rt;
+            pools.rows(),
+            [default_pool_row(dbadmin), default_pool_row(general)].as_slice()
+        );
+        let mut users = Users::new(rt.alloc())?;
+        users.add(default_user_row(dbadmin));
+        users.add(default_user_row(general));
+        assert_eq!(rt;
+            users.rows(),
+            [default_user_row(dbadmin), default_user_row(general)].as_slice()
+        );
+        let mut roles = Roles::new(rt.alloc())?;
+        let role = RoleRow {
+            name: general,
+            pool: Some(general),
+        };
+        roles.add(role);
+        assert_eq!(rt; roles.rows(), [role].as_slice());
+        let mut grants = Grants::new(rt.alloc())?;
+        grants.add(GrantRow::PoolToUser(general, dbadmin));
+        grants.add(GrantRow::RoleToUser(general, dbadmin));
+        assert_eq!(rt;
+            grants.rows(),
+            [
+                GrantRow::PoolToUser(general, dbadmin),
+                GrantRow::RoleToUser(general, dbadmin)
+            ]
+            .as_slice()
+        );
+        Ok(())
+    }
+}
