@@ -1,0 +1,3 @@
+pub mod NameLemmas
+pub mod Keys
+pub mod Means

@@ -1,0 +1,7 @@
+use Rattle.std.specs.Str.{str_to_ascii_lowercase}
+use Rattle.pool_sql.proofs.NameLemmas.{name_called-by}
+use Rattle.pool_sql.proofs.names.name_of.Goals as goal
+
+pub returns-in-Bare : goal.returns-in-Bare
+returns-in-Bare c =
+    name_called-by c.of.result (str_to_ascii_lowercase c.in-Bare.word.now) c.of.ensures.valid c.of.ensures.text
