@@ -1,3 +1,6 @@
 pub mod NameLemmas
 pub mod Keys
 pub mod Means
+pub mod Complete
+pub mod Fronts
+pub mod Blamed

@@ -151,7 +151,11 @@ finish (Part true st) = Some st
 finish (Ended st) = Some st
 finish _ = None
 
+abbrev pub onward : Stepped → (Progress → Stepped) → Stepped
+onward (Ok q) next = next q
+onward (Err why) next = Err why
+
 -- all the words
 abbrev pub run : Progress → List Token → Stepped
 run p [] = Ok p
-run p (t ∷ ts) = elim (step p t) [ Ok q ↦ run q ts | Err why ↦ Err why ]
+run p (t ∷ ts) = onward (step p t) (λ q. run q ts)
