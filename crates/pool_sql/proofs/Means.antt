@@ -85,10 +85,10 @@ Means (MinusRead st) ts = IsMinusRead st ts
 Means (Ended st) ts = IsEnded st ts
 Means p ts = ts ≡ path p
 
-ok_is : (p q : Progress) → (let r : Stepped = Ok p in let s : Stepped = Ok q in r ≡ s) → p ≡ q
+pub ok_is : (p q : Progress) → (let r : Stepped = Ok p in let s : Stepped = Ok q in r ≡ s) → p ≡ q
 ok_is p q h = cc
 
-not_err : (why : Stop) (q : Progress) → (let r : Stepped = Err why in let s : Stepped = Ok q in r ≡ s) → ⊥
+pub not_err : (why : Stop) (q : Progress) → (let r : Stepped = Err why in let s : Stepped = Ok q in r ≡ s) → ⊥
 not_err why q h = cc
 
 -- each of the key words leads to what the words then are
@@ -139,11 +139,11 @@ begun-means verb.Drop kind.Pool n = drop_pool n
 begun-means verb.Drop kind.User n = drop_user n
 begun-means verb.Drop kind.Role n = drop_role n
 
-usage-means : (g : Giving) (p n : Name) → IsBody true (usage_given g p n) (path (UsageTo g p) ++ name n ∷ [])
+pub usage-means : (g : Giving) (p n : Name) → IsBody true (usage_given g p n) (path (UsageTo g p) ++ name n ∷ [])
 usage-means giving.Grant p n = grant_usage p n
 usage-means giving.Revoke p n = revoke_usage p n
 
-role-means : (g : Giving) (r u : Name) → IsBody true (role_given g r u) (path (RoleTo g r) ++ name u ∷ [])
+pub role-means : (g : Giving) (r u : Name) → IsBody true (role_given g r u) (path (RoleTo g r) ++ name u ∷ [])
 role-means giving.Grant r u = grant_role r u
 role-means giving.Revoke r u = revoke_role r u
 
@@ -213,7 +213,7 @@ parameter-turn b st ts t q None is body h = other-means b st ts t q body h
 parameter-turn b st ts t q (Some p) is body h = repeated-turn b st ts t p q (is_named p st) refl body is h
 
 -- a second key word
-more-means : (st : Statement) (p : Parameter) (k : List ℕ) (ts : List Token) → more_keys p ≡ key k ∷ [] → IsKeyed st p ts
+pub more-means : (st : Statement) (p : Parameter) (k : List ℕ) (ts : List Token) → more_keys p ≡ key k ∷ [] → IsKeyed st p ts
   → IsValueDue st p (ts ++ key k ∷ [])
 more-means _ _ k _ more (keyed_by b st ts t p body is fresh) =
     subst (λ l. IsValueDue st p l)
@@ -260,7 +260,7 @@ minus-turn st p ts t q why true is at h =
         (minus_read st ts (subst (λ x. IsValueDue st x ts) both.0 at)))
 minus-turn st p ts t q why false is at h = absurd (not_err why q h)
 
-set-means : (st : Statement) (p : Parameter) (ts vs : List Token) (x : Setting) → IsValueDue st p ts → IsValue p x vs
+pub set-means : (st : Statement) (p : Parameter) (ts vs : List Token) (x : Setting) → IsValueDue st p ts → IsValue p x vs
   → IsBody true (set st x) (ts ++ vs)
 set-means _ _ _ vs x (due b st ts t p body is fresh) value = named b st ts t p x vs body is fresh value
 

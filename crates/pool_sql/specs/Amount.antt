@@ -44,6 +44,9 @@ abbrev pub percent : Result ℕ Fault → Result Size Fault
 percent (Ok n) = Ok (Percent n)
 percent (Err fault) = Err fault
 
+abbrev pub percent_in : ℕ → Result Size Fault
+percent_in n = percent (within 0 100 n)
+
 abbrev pub bytes : Result ℕ Fault → Result Size Fault
 bytes (Ok n) = Ok (Bytes n)
 bytes (Err fault) = Err fault
@@ -54,13 +57,16 @@ bytes_in n (Some unit) = bytes (within 0 MEMORY_MOST (n * unit))
 
 -- so many of a unit, `%` or one of K, M, G and T
 abbrev pub size_in : ℕ → List ℕ → Result Size Fault
-size_in n (c ∷ []) = if c == 37 then percent (within 0 100 n) else bytes_in n (unit_bytes c)
+size_in n (c ∷ []) = if c == 37 then percent_in n else bytes_in n (unit_bytes c)
 size_in n _ = Err Form
+
+abbrev pub size_in_text : List ℕ → Result Size Fault
+size_in_text text =
+    if digit_count text == 0 then Err Form else size_in (front_number text) (unit_of text)
 
 -- a size: digits and a unit between quotes
 abbrev pub size_of : Token → Result Size Fault
-size_of (Quoted text) =
-    if digit_count text == 0 then Err Form else size_in (front_number text) (unit_of text)
+size_of (Quoted text) = size_in_text text
 size_of _ = Err Form
 
 -- the milliseconds of a unit of spans
@@ -80,10 +86,13 @@ abbrev pub span_in : ℕ → ℕ → List ℕ → Result ℕ Fault
 span_in least n (c ∷ unit) = if c == 32 then ms_in least n (unit_ms unit) else Err Form
 span_in least n [] = Err Form
 
+abbrev pub span_in_text : ℕ → List ℕ → Result ℕ Fault
+span_in_text least text =
+    if digit_count text == 0 then Err Form else span_in least (front_number text) (unit_of text)
+
 -- a span in milliseconds, at least so long: digits, a space and a unit between quotes
 abbrev pub span_of : ℕ → Token → Result ℕ Fault
-span_of least (Quoted text) =
-    if digit_count text == 0 then Err Form else span_in least (front_number text) (unit_of text)
+span_of least (Quoted text) = span_in_text least text
 span_of least _ = Err Form
 
 -- a timeout in milliseconds: a number of seconds, or a span

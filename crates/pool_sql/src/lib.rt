@@ -1,6 +1,7 @@
 //! Reads the statements on pools, users, roles and grants, and prints them.
 #![tactic(auto)]
 
+pub mod amount;
 pub mod names;
 pub mod progress;
 pub mod setting;
