@@ -4,3 +4,5 @@ pub mod Means
 pub mod Complete
 pub mod Fronts
 pub mod Blamed
+pub mod Amounts
+pub mod Capped

@@ -1,6 +1,7 @@
 -- which amounts words write
-use Rattle.std.specs.Prelude.{ℕ, ◌+◌, ◌*◌, Bool, true, false, ◌&&◌, ◌||◌, ◌==◌, nat_le, if◌then◌else◌, Option, Some, None, Result, Ok, Err, List, [], ◌∷◌, take, drop, codes}
+use Rattle.std.specs.Prelude.{ℕ, ◌+◌, ◌*◌, Bool, true, false, ◌&&◌, ◌==◌, nat_le, if◌then◌else◌, Option, Some, None, Result, Ok, Err, List, [], ◌∷◌, take, drop, codes}
 use Rattle.std.specs.Char.{to_ascii_lowercase}
+use Rattle.std.specs.List.{list_any}
 use Rattle.std.specs.Str.{bytes_eq}
 use Rattle.std.specs.Str.Parse.{digits_value}
 use Rattle.rm_base.specs.declared.limits.TheConstants.{MEMORY_MOST, SPAN_MOST}
@@ -69,13 +70,16 @@ abbrev pub size_of : Token → Result Size Fault
 size_of (Quoted text) = size_in_text text
 size_of _ = Err Form
 
+abbrev pub is_among : List (List ℕ) → List ℕ → Bool
+is_among texts text = list_any (bytes_eq text) texts
+
 -- the milliseconds of a unit of spans
 abbrev pub unit_ms : List ℕ → Option ℕ
 unit_ms unit =
-    if bytes_eq unit (codes "ms") || bytes_eq unit (codes "millisecond") || bytes_eq unit (codes "milliseconds") then Some 1
-    else (if bytes_eq unit (codes "second") || bytes_eq unit (codes "seconds") then Some 1000
-    else (if bytes_eq unit (codes "minute") || bytes_eq unit (codes "minutes") then Some 60000
-    else (if bytes_eq unit (codes "hour") || bytes_eq unit (codes "hours") then Some 3600000 else None)))
+    if is_among (codes "ms" ∷ codes "millisecond" ∷ codes "milliseconds" ∷ []) unit then Some 1
+    else (if is_among (codes "second" ∷ codes "seconds" ∷ []) unit then Some 1000
+    else (if is_among (codes "minute" ∷ codes "minutes" ∷ []) unit then Some 60000
+    else (if is_among (codes "hour" ∷ codes "hours" ∷ []) unit then Some 3600000 else None)))
 
 abbrev pub ms_in : ℕ → ℕ → Option ℕ → Result ℕ Fault
 ms_in least n None = Err Form

@@ -1,4 +1,6 @@
 ghost use Rattle.std.specs.Prelude.{◌≡◌, ◌-◌, ◌*◌, ◌^◌, ◌<◌, ◌≤◌, min, length};
+ghost use Rattle.std.specs.List.{list_any};
+ghost use Rattle.std.specs.Str.{bytes_eq};
 ghost use Rattle.std.specs.Str.Parse.{digits_value};
 ghost use Rattle.rm_words.specs.Class.{class_of};
 ghost use Rattle.rm_words.specs.Word.{is_digit};
@@ -145,15 +147,25 @@ fn size_in_text(text: &[u8]) -> Result<Size, Fault>
     size_in(digits_value(digits), unit)
 }
 
+fn is_among(text: &[u8], words: &[&str]) -> bool
+    ensures { result ≡ list_any (λ word. bytes_eq text.now word.now) words.now }
+{
+    words.iter().any(|word| text == word.as_bytes())
+}
+
 fn unit_ms(unit: &[u8]) -> Option<u64>
     ensures { result ≡ unit_ms unit.now }
 {
-    match unit {
-        b"ms" | b"millisecond" | b"milliseconds" => Some(1),
-        b"second" | b"seconds" => Some(SECOND),
-        b"minute" | b"minutes" => Some(MINUTE),
-        b"hour" | b"hours" => Some(HOUR),
-        _ => None,
+    if is_among(unit, &["ms", "millisecond", "milliseconds"]) {
+        Some(1)
+    } else if is_among(unit, &["second", "seconds"]) {
+        Some(SECOND)
+    } else if is_among(unit, &["minute", "minutes"]) {
+        Some(MINUTE)
+    } else if is_among(unit, &["hour", "hours"]) {
+        Some(HOUR)
+    } else {
+        None
     }
 }
 

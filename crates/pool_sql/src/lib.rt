@@ -3,6 +3,8 @@
 
 pub mod amount;
 pub mod names;
+pub mod parameter;
 pub mod progress;
 pub mod setting;
 pub mod stop;
+pub mod value;
