@@ -6,3 +6,4 @@ pub mod Parameter
 pub mod Grammar
 pub mod Machine
 pub mod Text
+pub mod Reading

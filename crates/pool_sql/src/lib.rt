@@ -5,6 +5,7 @@ pub mod amount;
 pub mod names;
 pub mod parameter;
 pub mod progress;
+pub mod reading;
 pub mod setting;
 pub mod stop;
 pub mod value;

@@ -1,8 +1,10 @@
-ghost use Rattle.std.specs.Prelude.{◌≡◌};
+ghost use Rattle.std.specs.Prelude.{◌≡◌, [], ◌∷◌};
 ghost use Rattle.rm_words.specs.Token.{seen};
-ghost use Rattle.pool_sql.specs.Machine.{begun, finish, is_minus, keyed, on_given, on_name, on_negative, on_other, on_parameter, on_role_pool, on_value, role_given, step, stranger, to_key, usage_given};
+ghost use Rattle.pool_sql.specs.Parameter.{parameter_of};
+ghost use Rattle.pool_sql.specs.Value.{negative_of, optional_name, value_of};
+ghost use Rattle.pool_sql.specs.Machine.{begun, finish, is_minus, is_semicolon, keyed, on_given, on_key, on_negative, on_other, on_parameter, on_role_pool, on_value, role_given, step, stranger, to_key, usage_given};
 
-use crate::names::name_of;
+use crate::names::{name_of, usage_name};
 use crate::parameter::{is_affinity, parameter_of, takes_any};
 use crate::setting::{is_named, no_pool_change, no_user_change, set, Setting};
 use crate::stop::Stop;
@@ -111,21 +113,231 @@ impl Giving {
         }
     }
 
-    fn usage(self, pool: Name, name: Name) -> Progress
-        ensures { result ≡ Progress.Part true (usage_given self pool name) }
+    fn usage(self, pool: Name, name: Name) -> Statement
+        ensures { result ≡ usage_given self pool name }
     {
         match self {
-            Giving::Grant => Progress::Part(true, Statement::GrantUsage(pool, name)),
-            Giving::Revoke => Progress::Part(true, Statement::RevokeUsage(pool, name)),
+            Giving::Grant => Statement::GrantUsage(pool, name),
+            Giving::Revoke => Statement::RevokeUsage(pool, name),
         }
     }
 
-    fn role(self, role: Name, user: Name) -> Progress
-        ensures { result ≡ Progress.Part true (role_given self role user) }
+    fn role(self, role: Name, user: Name) -> Statement
+        ensures { result ≡ role_given self role user }
     {
         match self {
-            Giving::Grant => Progress::Part(true, Statement::GrantRole(role, user)),
-            Giving::Revoke => Progress::Part(true, Statement::RevokeRole(role, user)),
+            Giving::Grant => Statement::GrantRole(role, user),
+            Giving::Revoke => Statement::RevokeRole(role, user),
+        }
+    }
+}
+
+/// The one key word that may come next, and where it leads.
+fn on_key(token: &Token, key: &[u8], progress: Progress) -> Result<Progress, Stop>
+    ensures { result ≡ on_key ((key.now, progress) ∷ []) (seen token.now) }
+{
+    if token.is_key(key) {
+        Ok(progress)
+    } else {
+        Err(Stop::Syntax)
+    }
+}
+
+fn on_start(token: &Token) -> Result<Progress, Stop>
+    ensures { result ≡ step Progress.Start (seen token.now) }
+{
+    if token.is_key(b"CREATE") {
+        Ok(Progress::Verbed(Verb::Create))
+    } else if token.is_key(b"ALTER") {
+        Ok(Progress::Verbed(Verb::Alter))
+    } else if token.is_key(b"DROP") {
+        Ok(Progress::Verbed(Verb::Drop))
+    } else if token.is_key(b"GRANT") {
+        Ok(Progress::Given(Giving::Grant))
+    } else if token.is_key(b"REVOKE") {
+        Ok(Progress::Given(Giving::Revoke))
+    } else {
+        Err(Stop::Syntax)
+    }
+}
+
+fn on_verb(verb: Verb, token: &Token) -> Result<Progress, Stop>
+    ensures { result ≡ step (Progress.Verbed verb) (seen token.now) }
+{
+    if token.is_key(b"RESOURCE") {
+        Ok(Progress::OfResource(verb))
+    } else if token.is_key(b"USER") {
+        Ok(Progress::NameDue(verb, Kind::User))
+    } else if token.is_key(b"ROLE") {
+        Ok(Progress::NameDue(verb, Kind::Role))
+    } else {
+        Err(Stop::Syntax)
+    }
+}
+
+/// The first word behind GRANT or REVOKE.
+fn on_given(giving: Giving, token: &Token) -> Result<Progress, Stop>
+    ensures { result ≡ on_given giving (seen token.now) }
+{
+    if token.is_key(b"USAGE") {
+        return Ok(Progress::Usage(giving));
+    }
+    match name_of(token) {
+        Some(role) => Ok(Progress::RoleOf(giving, role)),
+        None => Err(Stop::Syntax),
+    }
+}
+
+fn on_usage(giving: Giving, token: &Token) -> Result<Progress, Stop>
+    ensures { result ≡ step (Progress.Usage giving) (seen token.now) }
+{
+    if token.is_key(b"ON") {
+        Ok(Progress::UsageOn(giving))
+    } else if token.is_key(giving.to_key()) {
+        Ok(Progress::RoleTo(giving, usage_name()))
+    } else {
+        Err(Stop::Syntax)
+    }
+}
+
+fn on_role_pool(name: Name, token: &Token) -> Result<Progress, Stop>
+    ensures { result ≡ on_role_pool name (optional_name (seen token.now)) }
+{
+    match optional_name(token) {
+        Ok(pool) => Ok(Progress::Part(true, Statement::AlterRole(name, pool))),
+        Err(stop) => Err(stop),
+    }
+}
+
+/// Behind the first key word of a parameter.
+fn keyed(statement: Statement, parameter: Parameter) -> Progress
+    ensures { result ≡ keyed statement parameter }
+{
+    match parameter {
+        Parameter::Cascade => Progress::CascadeTo(statement),
+        Parameter::ResourcePool => Progress::UserPool(statement),
+        _ => Progress::ValueDue(statement, parameter),
+    }
+}
+
+fn stranger(takes: bool, token: &Token) -> Stop
+    ensures { result ≡ stranger takes (seen token.now) }
+{
+    if !takes {
+        Stop::Syntax
+    } else if is_affinity(token) {
+        Stop::NotSupported
+    } else {
+        Stop::Unknown
+    }
+}
+
+fn is_semicolon(symbol: Symbol) -> bool
+    ensures { result ≡ is_semicolon symbol }
+{
+    matches!(symbol, Symbol::Semicolon)
+}
+
+/// A word behind a body that names no parameter.
+fn on_other(whole: bool, statement: Statement, token: &Token) -> Result<Progress, Stop>
+    ensures { result ≡ on_other whole statement (seen token.now) }
+{
+    match token {
+        Token::Bare(_) => Err(stranger(takes_any(&statement), token)),
+        Token::Sign(symbol) if whole && is_semicolon(*symbol) => Ok(Progress::Ended(statement)),
+        _ => Err(Stop::Syntax),
+    }
+}
+
+fn on_parameter(whole: bool, statement: Statement, token: &Token) -> Result<Progress, Stop>
+    ensures { result ≡ on_parameter whole statement (seen token.now) (parameter_of statement (seen token.now)) }
+{
+    match parameter_of(&statement, token) {
+        Some(parameter) if is_named(parameter, &statement) => Err(Stop::Repeated(parameter)),
+        Some(parameter) => Ok(keyed(statement, parameter)),
+        None => on_other(whole, statement, token),
+    }
+}
+
+fn is_minus(parameter: Parameter, token: &Token) -> bool
+    ensures { result ≡ is_minus parameter (seen token.now) }
+{
+    matches!((parameter, token), (Parameter::Priority, Token::Sign(Symbol::Minus)))
+}
+
+fn on_value(statement: Statement, parameter: Parameter, token: &Token) -> Result<Progress, Stop>
+    ensures { result ≡ on_value statement parameter (seen token.now) (value_of parameter (seen token.now)) }
+{
+    match value_of(parameter, token) {
+        Ok(setting) => Ok(Progress::Part(true, set(statement, setting))),
+        Err(_) if is_minus(parameter, token) => Ok(Progress::MinusRead(statement)),
+        Err(stop) => Err(stop),
+    }
+}
+
+fn on_negative(statement: Statement, token: &Token) -> Result<Progress, Stop>
+    ensures { result ≡ on_negative statement (negative_of (seen token.now)) }
+{
+    match negative_of(token) {
+        Ok(number) => Ok(Progress::Part(true, set(statement, Setting::Priority(number)))),
+        Err(stop) => Err(stop),
+    }
+}
+
+impl Progress {
+    /// One word more.
+    pub fn step(self, token: &Token) -> Result<Progress, Stop>
+        ensures { result ≡ step self (seen token.now) }
+    {
+        match self {
+            Progress::Start => on_start(token),
+            Progress::Verbed(verb) => on_verb(verb, token),
+            Progress::OfResource(verb) => {
+                on_key(token, b"POOL", Progress::NameDue(verb, Kind::Pool))
+            }
+            Progress::NameDue(verb, kind) => name_of(token).map(|name| begun(verb, kind, name)).ok_or(Stop::Syntax),
+            Progress::Given(giving) => on_given(giving, token),
+            Progress::Usage(giving) => on_usage(giving, token),
+            Progress::UsageOn(giving) => {
+                on_key(token, b"RESOURCE", Progress::UsageResource(giving))
+            }
+            Progress::UsageResource(giving) => on_key(token, b"POOL", Progress::UsagePool(giving)),
+            Progress::UsagePool(giving) => name_of(token).map(|pool| Progress::UsageOf(giving, pool)).ok_or(Stop::Syntax),
+            Progress::UsageOf(giving, pool) => {
+                on_key(token, giving.to_key(), Progress::UsageTo(giving, pool))
+            }
+            Progress::UsageTo(giving, pool) => {
+                name_of(token).map(|name| Progress::Part(true, giving.usage(pool, name))).ok_or(Stop::Syntax)
+            }
+            Progress::RoleOf(giving, role) => {
+                on_key(token, giving.to_key(), Progress::RoleTo(giving, role))
+            }
+            Progress::RoleTo(giving, role) => {
+                name_of(token).map(|user| Progress::Part(true, giving.role(role, user))).ok_or(Stop::Syntax)
+            }
+            Progress::RoleNamed(name) => on_key(token, b"RESOURCE", Progress::RoleResource(name)),
+            Progress::RoleResource(name) => on_key(token, b"POOL", Progress::RolePool(name)),
+            Progress::RolePool(name) => on_role_pool(name, token),
+            Progress::Part(whole, statement) => on_parameter(whole, statement, token),
+            Progress::CascadeTo(statement) => {
+                on_key(token, b"TO", Progress::ValueDue(statement, Parameter::Cascade))
+            }
+            Progress::UserPool(statement) => {
+                on_key(token, b"POOL", Progress::ValueDue(statement, Parameter::ResourcePool))
+            }
+            Progress::ValueDue(statement, parameter) => on_value(statement, parameter, token),
+            Progress::MinusRead(statement) => on_negative(statement, token),
+            Progress::Ended(_) => Err(Stop::Syntax),
+        }
+    }
+
+    /// The statement that the words so far are, if they are one.
+    pub fn finish(self) -> Option<Statement>
+        ensures { result ≡ finish self }
+    {
+        match self {
+            Progress::Part(true, statement) | Progress::Ended(statement) => Some(statement),
+            _ => None,
         }
     }
 }
