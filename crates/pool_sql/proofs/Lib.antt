@@ -6,3 +6,4 @@ pub mod Fronts
 pub mod Blamed
 pub mod Amounts
 pub mod Capped
+pub mod Readings

@@ -200,6 +200,42 @@ fn on_usage(giving: Giving, token: &Token) -> Result<Progress, Stop>
     }
 }
 
+fn on_begun(verb: Verb, kind: Kind, token: &Token) -> Result<Progress, Stop>
+    ensures { result ≡ step (Progress.NameDue verb kind) (seen token.now) }
+{
+    match name_of(token) {
+        Some(name) => Ok(begun(verb, kind, name)),
+        None => Err(Stop::Syntax),
+    }
+}
+
+fn on_usage_pool(giving: Giving, token: &Token) -> Result<Progress, Stop>
+    ensures { result ≡ step (Progress.UsagePool giving) (seen token.now) }
+{
+    match name_of(token) {
+        Some(pool) => Ok(Progress::UsageOf(giving, pool)),
+        None => Err(Stop::Syntax),
+    }
+}
+
+fn on_usage_to(giving: Giving, pool: Name, token: &Token) -> Result<Progress, Stop>
+    ensures { result ≡ step (Progress.UsageTo giving pool) (seen token.now) }
+{
+    match name_of(token) {
+        Some(name) => Ok(Progress::Part(true, giving.usage(pool, name))),
+        None => Err(Stop::Syntax),
+    }
+}
+
+fn on_role_to(giving: Giving, role: Name, token: &Token) -> Result<Progress, Stop>
+    ensures { result ≡ step (Progress.RoleTo giving role) (seen token.now) }
+{
+    match name_of(token) {
+        Some(user) => Ok(Progress::Part(true, giving.role(role, user))),
+        None => Err(Stop::Syntax),
+    }
+}
+
 fn on_role_pool(name: Name, token: &Token) -> Result<Progress, Stop>
     ensures { result ≡ on_role_pool name (optional_name (seen token.now)) }
 {
@@ -295,26 +331,22 @@ impl Progress {
             Progress::OfResource(verb) => {
                 on_key(token, b"POOL", Progress::NameDue(verb, Kind::Pool))
             }
-            Progress::NameDue(verb, kind) => name_of(token).map(|name| begun(verb, kind, name)).ok_or(Stop::Syntax),
+            Progress::NameDue(verb, kind) => on_begun(verb, kind, token),
             Progress::Given(giving) => on_given(giving, token),
             Progress::Usage(giving) => on_usage(giving, token),
             Progress::UsageOn(giving) => {
                 on_key(token, b"RESOURCE", Progress::UsageResource(giving))
             }
             Progress::UsageResource(giving) => on_key(token, b"POOL", Progress::UsagePool(giving)),
-            Progress::UsagePool(giving) => name_of(token).map(|pool| Progress::UsageOf(giving, pool)).ok_or(Stop::Syntax),
+            Progress::UsagePool(giving) => on_usage_pool(giving, token),
             Progress::UsageOf(giving, pool) => {
                 on_key(token, giving.to_key(), Progress::UsageTo(giving, pool))
             }
-            Progress::UsageTo(giving, pool) => {
-                name_of(token).map(|name| Progress::Part(true, giving.usage(pool, name))).ok_or(Stop::Syntax)
-            }
+            Progress::UsageTo(giving, pool) => on_usage_to(giving, pool, token),
             Progress::RoleOf(giving, role) => {
                 on_key(token, giving.to_key(), Progress::RoleTo(giving, role))
             }
-            Progress::RoleTo(giving, role) => {
-                name_of(token).map(|user| Progress::Part(true, giving.role(role, user))).ok_or(Stop::Syntax)
-            }
+            Progress::RoleTo(giving, role) => on_role_to(giving, role, token),
             Progress::RoleNamed(name) => on_key(token, b"RESOURCE", Progress::RoleResource(name)),
             Progress::RoleResource(name) => on_key(token, b"POOL", Progress::RolePool(name)),
             Progress::RolePool(name) => on_role_pool(name, token),
