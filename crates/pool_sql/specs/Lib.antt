@@ -7,3 +7,5 @@ pub mod Grammar
 pub mod Machine
 pub mod Text
 pub mod Reading
+pub mod Right
+pub mod Printed

@@ -4,6 +4,7 @@
 pub mod amount;
 pub mod names;
 pub mod parameter;
+pub mod printing;
 pub mod progress;
 pub mod reading;
 pub mod setting;
