@@ -7,3 +7,6 @@ pub mod Blamed
 pub mod Amounts
 pub mod Capped
 pub mod Readings
+pub mod Rights
+pub mod Results
+pub mod Prints

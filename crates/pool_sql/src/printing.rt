@@ -220,33 +220,49 @@ fn with_settings(alloc: Global, text: String, settings: &[Option<Setting>]) -> R
     Ok(text)
 }
 
+fn with_pool(alloc: Global, text: String, change: &PoolChange) -> Result<String, AllocError>
+    ensures { IfOk result (λ whole. string_bytes whole ≡ string_bytes text ++ settings_text (pool_settings change.now)) }
+{
+    with_settings(alloc, text, &pool_settings(change))
+}
+
+fn with_user(alloc: Global, text: String, change: &UserChange) -> Result<String, AllocError>
+    ensures { IfOk result (λ whole. string_bytes whole ≡ string_bytes text ++ settings_text (user_settings change.now)) }
+{
+    with_settings(alloc, text, &user_settings(change))
+}
+
+fn role_text(alloc: Global, name: Name, pool: Option<Name>) -> Result<String, AllocError>
+    ensures { IfOk result (λ text. string_bytes text ≡ statement_text (Statement.AlterRole name pool)) }
+{
+    let pool = name_or_none(pool);
+    format!(in alloc; "ALTER ROLE {name} RESOURCE POOL {pool}")
+}
+
 fn statement_text(alloc: Global, statement: &Statement) -> Result<String, AllocError>
     ensures { IfOk result (λ text. string_bytes text ≡ statement_text statement.now) }
 {
     match statement {
         Statement::CreatePool(name, change) => {
             let text = format!(in alloc; "CREATE RESOURCE POOL {name}")?;
-            with_settings(alloc, text, &pool_settings(change))
+            with_pool(alloc, text, change)
         }
         Statement::AlterPool(name, change) => {
             let text = format!(in alloc; "ALTER RESOURCE POOL {name}")?;
-            with_settings(alloc, text, &pool_settings(change))
+            with_pool(alloc, text, change)
         }
         Statement::DropPool(name) => format!(in alloc; "DROP RESOURCE POOL {name}"),
         Statement::CreateUser(name, change) => {
             let text = format!(in alloc; "CREATE USER {name}")?;
-            with_settings(alloc, text, &user_settings(change))
+            with_user(alloc, text, change)
         }
         Statement::AlterUser(name, change) => {
             let text = format!(in alloc; "ALTER USER {name}")?;
-            with_settings(alloc, text, &user_settings(change))
+            with_user(alloc, text, change)
         }
         Statement::DropUser(name) => format!(in alloc; "DROP USER {name}"),
         Statement::CreateRole(name) => format!(in alloc; "CREATE ROLE {name}"),
-        Statement::AlterRole(name, pool) => {
-            let pool = name_or_none(*pool);
-            format!(in alloc; "ALTER ROLE {name} RESOURCE POOL {pool}")
-        }
+        Statement::AlterRole(name, pool) => role_text(alloc, *name, *pool),
         Statement::DropRole(name) => format!(in alloc; "DROP ROLE {name}"),
         Statement::GrantUsage(pool, name) => {
             format!(in alloc; "GRANT USAGE ON RESOURCE POOL {pool} TO {name}")
