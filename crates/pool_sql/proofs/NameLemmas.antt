@@ -50,7 +50,7 @@ name_called-some text n h = turn (is_name_text text) refl h
       sym (text_in-padded text (NAME_MOST - length text) (bare_continues text (IsNameText-from text is).bare)) ∙ ap text_in same
   turn false is e = absurd cc
 
-name_called-none : (text : List ℕ) → is_name_text text ≡ false → name_called text ≡ None
+pub name_called-none : (text : List ℕ) → is_name_text text ≡ false → name_called text ≡ None
 unfolding name_called
 name_called-none text is = ap (λ b. name_if b (text ++ replicate (NAME_MOST - length text) 0)) is
 

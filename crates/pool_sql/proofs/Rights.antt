@@ -14,6 +14,7 @@ use Rattle.rm_base.specs.declared.statement.Size.{Size}
 use Rattle.rm_base.specs.declared.statement.Size.TheVariants.{Bytes, Percent}
 use Rattle.rm_base.specs.declared.statement.Statement.{Statement}
 use Rattle.rm_base.specs.declared.statement.Statement.TheVariants as statement
+use Rattle.rm_base.specs.RefusalText.{parameter_text}
 use Rattle.rm_words.specs.Token.{Token, Bare, Number, Quoted, Sign, is_key}
 use Rattle.pool_sql.specs.declared.setting.Setting.{Setting}
 use Rattle.pool_sql.specs.declared.setting.Setting.TheVariants as setting
@@ -393,17 +394,17 @@ set_user-named c (setting.MemoryCap x) h = refl
 -- what is set is named
 set-names : (st : Statement) (x : Setting) (t : Token) (p : Parameter) → parameter_of st t ≡ Some p → p ≡ parameter_named x → names_any (set st x) ≡ true
 set-names (statement.CreatePool n c) x t p is same =
-    found-any _ (λ q. is_named_pool q (set_pool c x)) pool_parameters p
-      (ap (λ q. is_named_pool q (set_pool c x)) same ∙ set_pool-named c x (ap is_of_pool (sym same) ∙ found-all _ is_of_pool pool_parameters p refl is)) is
+    found-any (λ q. is_key t (parameter_text q)) (λ q. is_named_pool q (set_pool c x)) pool_parameters p
+      (ap (λ q. is_named_pool q (set_pool c x)) same ∙ set_pool-named c x (ap is_of_pool (sym same) ∙ found-all (λ q. is_key t (parameter_text q)) is_of_pool pool_parameters p refl is)) is
 set-names (statement.AlterPool n c) x t p is same =
-    found-any _ (λ q. is_named_pool q (set_pool c x)) pool_parameters p
-      (ap (λ q. is_named_pool q (set_pool c x)) same ∙ set_pool-named c x (ap is_of_pool (sym same) ∙ found-all _ is_of_pool pool_parameters p refl is)) is
+    found-any (λ q. is_key t (parameter_text q)) (λ q. is_named_pool q (set_pool c x)) pool_parameters p
+      (ap (λ q. is_named_pool q (set_pool c x)) same ∙ set_pool-named c x (ap is_of_pool (sym same) ∙ found-all (λ q. is_key t (parameter_text q)) is_of_pool pool_parameters p refl is)) is
 set-names (statement.CreateUser n c) x t p is same =
-    found-any _ (λ q. is_named_user q (set_user c x)) user_parameters p
-      (ap (λ q. is_named_user q (set_user c x)) same ∙ set_user-named c x (ap is_of_user (sym same) ∙ found-all _ is_of_user user_parameters p refl is)) is
+    found-any (λ q. is_key t (parameter_text q)) (λ q. is_named_user q (set_user c x)) user_parameters p
+      (ap (λ q. is_named_user q (set_user c x)) same ∙ set_user-named c x (ap is_of_user (sym same) ∙ found-all (λ q. is_key t (parameter_text q)) is_of_user user_parameters p refl is)) is
 set-names (statement.AlterUser n c) x t p is same =
-    found-any _ (λ q. is_named_user q (set_user c x)) user_parameters p
-      (ap (λ q. is_named_user q (set_user c x)) same ∙ set_user-named c x (ap is_of_user (sym same) ∙ found-all _ is_of_user user_parameters p refl is)) is
+    found-any (λ q. is_key t (parameter_text q)) (λ q. is_named_user q (set_user c x)) user_parameters p
+      (ap (λ q. is_named_user q (set_user c x)) same ∙ set_user-named c x (ap is_of_user (sym same) ∙ found-all (λ q. is_key t (parameter_text q)) is_of_user user_parameters p refl is)) is
 set-names (statement.DropPool a) x t p is same = absurd cc
 set-names (statement.DropUser a) x t p is same = absurd cc
 set-names (statement.CreateRole a) x t p is same = absurd cc
