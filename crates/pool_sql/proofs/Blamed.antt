@@ -234,3 +234,14 @@ stopped-why ts t p why h m stops = by (step-told p ts t why m stops)
       let same : found.last ≡ p = ok_is found.last p (sym found.reads ∙ h) in
       let fault : other ≡ why = err_is other why (sym found.stops ∙ ap (λ q. step q t) same ∙ stops) in
       blames-other ts t other blamed (fault ∙ syntax))
+
+-- a word is refused for one reason
+pub why_one : (ts : List Token) (t : Token) (a b : Stop) → IsWhy ts t a → IsWhy ts t b → a ≡ b
+why_one ts t a b (inl x) (inl y) =
+    let first = blames-stops ts t a x in
+    let second = blames-stops ts t b y in
+    let same : first.last ≡ second.last = ok_is first.last second.last (sym first.reads ∙ second.reads) in
+    err_is a b (sym first.stops ∙ ap (λ q. step q t) same ∙ second.stops)
+why_one ts t a b (inl x) (inr y) = absurd (y.1 a x)
+why_one ts t a b (inr x) (inl y) = absurd (x.1 b y)
+why_one ts t a b (inr x) (inr y) = x.0 ∙ sym y.0

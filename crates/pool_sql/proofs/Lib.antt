@@ -10,3 +10,4 @@ pub mod Readings
 pub mod Rights
 pub mod Results
 pub mod Prints
+pub mod Texts

@@ -29,6 +29,7 @@ use Rattle.rm_base.specs.RefusalText.{parameter_text}
 use Rattle.rm_base.proofs.NameLemmas.{IsNameText-from, KeepsName-from}
 use Rattle.rm_words.specs.declared.class.Class.{Class}
 use Rattle.rm_words.specs.declared.class.Class.TheVariants as class
+use Rattle.rm_words.specs.declared.spans.Span.{Span}
 use Rattle.rm_words.specs.declared.token.Symbol.TheVariants.{Minus}
 use Rattle.rm_words.specs.Class.{class_of}
 use Rattle.rm_words.specs.Word.{goes_on, is_bare, is_digit}
@@ -569,3 +570,227 @@ user-prints make c text m h start =
         (λ x. m.names (record no_user_change { pool = c.pool; memory_cap = c.memory_cap; cap_ms = None }) parameter.RuntimeCap) (λ x right. right) h.cap_ms prints_memory_cap in
     subst (λ l. Prints (make c) l) (all_text-settings (user_settings c) text) prints_cap_ms
 
+-- the statements without their parameters
+create_pool-prints : (n : Name) → Prints (statement.CreatePool n no_pool_change) (codes "CREATE RESOURCE POOL " ++ name_text n)
+create_pool-prints n = record {
+  whole = true;
+  tokens = key (codes "CREATE") ∷ key (codes "RESOURCE") ∷ key (codes "POOL") ∷ name n ∷ [];
+  first = codes "CREATE";
+  rest = codes "RESOURCE" ∷ codes "POOL" ∷ name_text n ∷ [];
+  body = create_pool n;
+  says = (record { word = refl; token = refl }, (record { word = refl; token = refl }, (record { word = refl; token = refl }, (name-says n, tt))));
+  spaces = ap (λ l. codes "CREATE RESOURCE POOL " ++ l) (append-nil (name_text n))
+}
+
+alter_pool-prints : (n : Name) → Prints (statement.AlterPool n no_pool_change) (codes "ALTER RESOURCE POOL " ++ name_text n)
+alter_pool-prints n = record {
+  whole = false;
+  tokens = key (codes "ALTER") ∷ key (codes "RESOURCE") ∷ key (codes "POOL") ∷ name n ∷ [];
+  first = codes "ALTER";
+  rest = codes "RESOURCE" ∷ codes "POOL" ∷ name_text n ∷ [];
+  body = alter_pool n;
+  says = (record { word = refl; token = refl }, (record { word = refl; token = refl }, (record { word = refl; token = refl }, (name-says n, tt))));
+  spaces = ap (λ l. codes "ALTER RESOURCE POOL " ++ l) (append-nil (name_text n))
+}
+
+drop_pool-prints : (n : Name) → Prints (statement.DropPool n) (codes "DROP RESOURCE POOL " ++ name_text n)
+drop_pool-prints n = record {
+  whole = true;
+  tokens = key (codes "DROP") ∷ key (codes "RESOURCE") ∷ key (codes "POOL") ∷ name n ∷ [];
+  first = codes "DROP";
+  rest = codes "RESOURCE" ∷ codes "POOL" ∷ name_text n ∷ [];
+  body = drop_pool n;
+  says = (record { word = refl; token = refl }, (record { word = refl; token = refl }, (record { word = refl; token = refl }, (name-says n, tt))));
+  spaces = ap (λ l. codes "DROP RESOURCE POOL " ++ l) (append-nil (name_text n))
+}
+
+create_user-prints : (n : Name) → Prints (statement.CreateUser n no_user_change) (codes "CREATE USER " ++ name_text n)
+create_user-prints n = record {
+  whole = true;
+  tokens = key (codes "CREATE") ∷ key (codes "USER") ∷ name n ∷ [];
+  first = codes "CREATE";
+  rest = codes "USER" ∷ name_text n ∷ [];
+  body = create_user n;
+  says = (record { word = refl; token = refl }, (record { word = refl; token = refl }, (name-says n, tt)));
+  spaces = ap (λ l. codes "CREATE USER " ++ l) (append-nil (name_text n))
+}
+
+alter_user-prints : (n : Name) → Prints (statement.AlterUser n no_user_change) (codes "ALTER USER " ++ name_text n)
+alter_user-prints n = record {
+  whole = false;
+  tokens = key (codes "ALTER") ∷ key (codes "USER") ∷ name n ∷ [];
+  first = codes "ALTER";
+  rest = codes "USER" ∷ name_text n ∷ [];
+  body = alter_user n;
+  says = (record { word = refl; token = refl }, (record { word = refl; token = refl }, (name-says n, tt)));
+  spaces = ap (λ l. codes "ALTER USER " ++ l) (append-nil (name_text n))
+}
+
+drop_user-prints : (n : Name) → Prints (statement.DropUser n) (codes "DROP USER " ++ name_text n)
+drop_user-prints n = record {
+  whole = true;
+  tokens = key (codes "DROP") ∷ key (codes "USER") ∷ name n ∷ [];
+  first = codes "DROP";
+  rest = codes "USER" ∷ name_text n ∷ [];
+  body = drop_user n;
+  says = (record { word = refl; token = refl }, (record { word = refl; token = refl }, (name-says n, tt)));
+  spaces = ap (λ l. codes "DROP USER " ++ l) (append-nil (name_text n))
+}
+
+create_role-prints : (n : Name) → Prints (statement.CreateRole n) (codes "CREATE ROLE " ++ name_text n)
+create_role-prints n = record {
+  whole = true;
+  tokens = key (codes "CREATE") ∷ key (codes "ROLE") ∷ name n ∷ [];
+  first = codes "CREATE";
+  rest = codes "ROLE" ∷ name_text n ∷ [];
+  body = create_role n;
+  says = (record { word = refl; token = refl }, (record { word = refl; token = refl }, (name-says n, tt)));
+  spaces = ap (λ l. codes "CREATE ROLE " ++ l) (append-nil (name_text n))
+}
+
+drop_role-prints : (n : Name) → Prints (statement.DropRole n) (codes "DROP ROLE " ++ name_text n)
+drop_role-prints n = record {
+  whole = true;
+  tokens = key (codes "DROP") ∷ key (codes "ROLE") ∷ name n ∷ [];
+  first = codes "DROP";
+  rest = codes "ROLE" ∷ name_text n ∷ [];
+  body = drop_role n;
+  says = (record { word = refl; token = refl }, (record { word = refl; token = refl }, (name-says n, tt)));
+  spaces = ap (λ l. codes "DROP ROLE " ++ l) (append-nil (name_text n))
+}
+
+grant_usage-prints : (p n : Name) → Prints (statement.GrantUsage p n) (codes "GRANT USAGE ON RESOURCE POOL " ++ (name_text p ++ (codes " TO " ++ name_text n)))
+grant_usage-prints p n = record {
+  whole = true;
+  tokens = key (codes "GRANT") ∷ key (codes "USAGE") ∷ key (codes "ON") ∷ key (codes "RESOURCE") ∷ key (codes "POOL") ∷ name p ∷ key (codes "TO") ∷ name n ∷ [];
+  first = codes "GRANT";
+  rest = codes "USAGE" ∷ codes "ON" ∷ codes "RESOURCE" ∷ codes "POOL" ∷ name_text p ∷ codes "TO" ∷ name_text n ∷ [];
+  body = grant_usage p n;
+  says = (record { word = refl; token = refl }, (record { word = refl; token = refl }, (record { word = refl; token = refl }, (record { word = refl; token = refl }, (record { word = refl; token = refl }, (name-says p, (record { word = refl; token = refl }, (name-says n, tt))))))));
+  spaces = ap (λ l. codes "GRANT USAGE ON RESOURCE POOL " ++ (name_text p ++ (codes " TO " ++ l))) (append-nil (name_text n))
+}
+
+revoke_usage-prints : (p n : Name) → Prints (statement.RevokeUsage p n) (codes "REVOKE USAGE ON RESOURCE POOL " ++ (name_text p ++ (codes " FROM " ++ name_text n)))
+revoke_usage-prints p n = record {
+  whole = true;
+  tokens = key (codes "REVOKE") ∷ key (codes "USAGE") ∷ key (codes "ON") ∷ key (codes "RESOURCE") ∷ key (codes "POOL") ∷ name p ∷ key (codes "FROM") ∷ name n ∷ [];
+  first = codes "REVOKE";
+  rest = codes "USAGE" ∷ codes "ON" ∷ codes "RESOURCE" ∷ codes "POOL" ∷ name_text p ∷ codes "FROM" ∷ name_text n ∷ [];
+  body = revoke_usage p n;
+  says = (record { word = refl; token = refl }, (record { word = refl; token = refl }, (record { word = refl; token = refl }, (record { word = refl; token = refl }, (record { word = refl; token = refl }, (name-says p, (record { word = refl; token = refl }, (name-says n, tt))))))));
+  spaces = ap (λ l. codes "REVOKE USAGE ON RESOURCE POOL " ++ (name_text p ++ (codes " FROM " ++ l))) (append-nil (name_text n))
+}
+
+grant_role-prints : (r u : Name) → Prints (statement.GrantRole r u) (codes "GRANT " ++ (name_text r ++ (codes " TO " ++ name_text u)))
+grant_role-prints r u = record {
+  whole = true;
+  tokens = key (codes "GRANT") ∷ name r ∷ key (codes "TO") ∷ name u ∷ [];
+  first = codes "GRANT";
+  rest = name_text r ∷ codes "TO" ∷ name_text u ∷ [];
+  body = grant_role r u;
+  says = (record { word = refl; token = refl }, (name-says r, (record { word = refl; token = refl }, (name-says u, tt))));
+  spaces = ap (λ l. codes "GRANT " ++ (name_text r ++ (codes " TO " ++ l))) (append-nil (name_text u))
+}
+
+revoke_role-prints : (r u : Name) → Prints (statement.RevokeRole r u) (codes "REVOKE " ++ (name_text r ++ (codes " FROM " ++ name_text u)))
+revoke_role-prints r u = record {
+  whole = true;
+  tokens = key (codes "REVOKE") ∷ name r ∷ key (codes "FROM") ∷ name u ∷ [];
+  first = codes "REVOKE";
+  rest = name_text r ∷ codes "FROM" ∷ name_text u ∷ [];
+  body = revoke_role r u;
+  says = (record { word = refl; token = refl }, (name-says r, (record { word = refl; token = refl }, (name-says u, tt))));
+  spaces = ap (λ l. codes "REVOKE " ++ (name_text r ++ (codes " FROM " ++ l))) (append-nil (name_text u))
+}
+
+-- the pool of a role
+record PoolSaid (pool : Option Name) : Type 0 where
+  token : Token
+  is : optional_name token ≡ Ok pool
+  says : Says (value_text (value_or value.Absent (λ p. value.OfName p) pool)) token
+
+pool-said : (pool : Option Name) → PoolSaid pool
+pool-said None = record { token = key (codes "NONE"); is = refl; says = absent-says }
+pool-said (Some p) = record { token = name p; is = not_none p (is_none (name p)) refl; says = name-says p }
+
+alter_role-prints : (n : Name) (pool : Option Name) → Prints (statement.AlterRole n pool) (statement_text (statement.AlterRole n pool))
+alter_role-prints n pool =
+    let said : PoolSaid pool = pool-said pool in
+    let text : List ℕ = value_text (value_or value.Absent (λ p. value.OfName p) pool) in
+    record {
+      whole = true;
+      tokens = key (codes "ALTER") ∷ key (codes "ROLE") ∷ name n ∷ key (codes "RESOURCE") ∷ key (codes "POOL") ∷ said.token ∷ [];
+      first = codes "ALTER";
+      rest = codes "ROLE" ∷ name_text n ∷ codes "RESOURCE" ∷ codes "POOL" ∷ text ∷ [];
+      body = alter_role n pool said.token said.is;
+      says = (record { word = refl; token = refl }, (record { word = refl; token = refl }, (name-says n, (record { word = refl; token = refl }, (record { word = refl; token = refl }, (said.says, tt))))));
+      spaces = ap (λ l. codes "ALTER ROLE " ++ (name_text n ++ (codes " RESOURCE POOL " ++ l))) (append-nil text)
+    }
+
+-- each right statement is printed
+statement-prints : (st : Statement) → IsRight st → Prints st (statement_text st)
+statement-prints (statement.CreatePool n c) right =
+    pool-prints (λ d. statement.CreatePool n d) c (codes "CREATE RESOURCE POOL " ++ name_text n)
+      (record { sets = λ d x. refl; takes = λ d t. refl; names = λ d p. refl }) right (create_pool-prints n)
+statement-prints (statement.AlterPool n c) right =
+    pool-prints (λ d. statement.AlterPool n d) c (codes "ALTER RESOURCE POOL " ++ name_text n)
+      (record { sets = λ d x. refl; takes = λ d t. refl; names = λ d p. refl }) right.0 (alter_pool-prints n)
+statement-prints (statement.DropPool n) right = drop_pool-prints n
+statement-prints (statement.CreateUser n c) right =
+    user-prints (λ d. statement.CreateUser n d) c (codes "CREATE USER " ++ name_text n)
+      (record { sets = λ d x. refl; takes = λ d t. refl; names = λ d p. refl }) right (create_user-prints n)
+statement-prints (statement.AlterUser n c) right =
+    user-prints (λ d. statement.AlterUser n d) c (codes "ALTER USER " ++ name_text n)
+      (record { sets = λ d x. refl; takes = λ d t. refl; names = λ d p. refl }) right.0 (alter_user-prints n)
+statement-prints (statement.DropUser n) right = drop_user-prints n
+statement-prints (statement.CreateRole n) right = create_role-prints n
+statement-prints (statement.AlterRole n pool) right = alter_role-prints n pool
+statement-prints (statement.DropRole n) right = drop_role-prints n
+statement-prints (statement.GrantUsage p n) right = grant_usage-prints p n
+statement-prints (statement.RevokeUsage p n) right = revoke_usage-prints p n
+statement-prints (statement.GrantRole r u) right = grant_role-prints r u
+statement-prints (statement.RevokeRole r u) right = revoke_role-prints r u
+
+-- an ALTER without a parameter is not right
+true_false : ◌≡◌ {A = Bool} true false → ⊥
+true_false h = cc
+
+begun-wrong : (b : Bool) (st : Statement) (ts : List Token) → b ≡ false → IsBody b st ts → IsRight st → ⊥
+begun-wrong _ _ _ h (alter_pool n) right = true_false (sym right.1)
+begun-wrong _ _ _ h (alter_user n) right = true_false (sym right.1)
+begun-wrong _ _ _ h (create_pool n) right = absurd (true_false h)
+begun-wrong _ _ _ h (drop_pool n) right = absurd (true_false h)
+begun-wrong _ _ _ h (create_user n) right = absurd (true_false h)
+begun-wrong _ _ _ h (drop_user n) right = absurd (true_false h)
+begun-wrong _ _ _ h (create_role n) right = absurd (true_false h)
+begun-wrong _ _ _ h (alter_role n pool t is) right = absurd (true_false h)
+begun-wrong _ _ _ h (drop_role n) right = absurd (true_false h)
+begun-wrong _ _ _ h (grant_usage p n) right = absurd (true_false h)
+begun-wrong _ _ _ h (revoke_usage p n) right = absurd (true_false h)
+begun-wrong _ _ _ h (grant_role r u) right = absurd (true_false h)
+begun-wrong _ _ _ h (revoke_role r u) right = absurd (true_false h)
+begun-wrong _ _ _ h (named b st ts t p x vs body is fresh value) right = absurd (true_false h)
+
+whole-body : (b : Bool) (st : Statement) (ts : List Token) → IsBody b st ts → IsRight st → IsBody true st ts
+whole-body true st ts body right = body
+whole-body false st ts body right = absurd (begun-wrong false st ts refl body right)
+
+tokens_in-words : (text : List ℕ) (spans : List Span) → tokens_in text spans ≡ map token_of (words_at text spans)
+tokens_in-words text [] = refl
+tokens_in-words text (span ∷ spans) = ap (λ l. token_of (word_at text span) ∷ l) (tokens_in-words text spans)
+
+said-spells : (st : Statement) (ws : List (List ℕ)) (ts : List Token) → IsBody true st ts → AllSay ws ts → SpellsText (joined ws) st
+said-spells st ws ts body says =
+    let text : List ℕ = joined ws in
+    let spans = spans_from 0 ws in
+    let same : tokens_in text spans ≡ ts =
+      tokens_in-words text spans ∙ ap (map token_of) (joined_words text 0 ws refl) ∙ tokens_said ws ts says in
+    (spans, joined_is_cut 0 ws (are_words ws ts says), subst (λ l. Spells l st) (sym same) (bare st ts body))
+
+-- the printed text of a right statement is spelled as it
+pub right-spells : (st : Statement) → IsRight st → SpellsText (statement_text st) st
+right-spells st right =
+    let prints = statement-prints st right in
+    subst (λ text. SpellsText text st) (joined-spaced prints.first prints.rest ∙ prints.spaces)
+      (said-spells st (prints.first ∷ prints.rest) prints.tokens
+        (whole-body prints.whole st prints.tokens prints.body right) prints.says)
