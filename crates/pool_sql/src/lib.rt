@@ -2,6 +2,7 @@
 #![tactic(auto)]
 
 pub mod amount;
+pub mod laws;
 pub mod names;
 pub mod parameter;
 pub mod printing;
@@ -10,3 +11,6 @@ pub mod reading;
 pub mod setting;
 pub mod stop;
 pub mod value;
+
+#[cfg(test)]
+mod tests;
