@@ -28,10 +28,15 @@ use Rattle.pool_sql.specs.Grammar.{IsBody, create_pool, alter_pool, drop_pool, c
 use Rattle.pool_sql.specs.Machine.{Stepped, Edge, begun, edges, finish, is_minus, is_semicolon, keyed, on_given, on_key, on_name, on_negative, on_other, on_parameter, on_role_pool, on_value, role_given, step, stranger, to_key, usage_given}
 use Rattle.pool_sql.proofs.Keys.{is_key-eq}
 use Rattle.pool_sql.proofs.NameLemmas.{name_of-eq}
-use Rattle.rm_base.specs.Name.{general}
+use Rattle.std.proofs.Common.{lit<}
+use Rattle.std.specs.Fmt.{decimal}
+use Rattle.rm_base.specs.Name.{general, name_text}
+use Rattle.rm_words.specs.Token.{Says}
+use Rattle.rm_words.proofs.Printing.{number_says}
 use Rattle.pool_sql.specs.Grammar.{IsFront, Spells, bare, ended}
 use Rattle.pool_sql.specs.Machine.{onward, run}
 use Rattle.pool_sql.proofs.Means.{IsEnded, IsKeyed, IsMinusRead, Means, is_ended, keyed_by, minus_read, more-means, not_err, ok_is, path, role-means, set-means, step-means, usage-means}
+use Rattle.pool_sql.proofs.Saying.{AllSay, AllSay-append, name-says}
 use Rattle.pool_sql.proofs.Complete.{Gives, run-after, run-append, spells-gives}
 
 -- what is read has its meaning
@@ -81,14 +86,38 @@ finish-spells (UserPool st) ts a m h = absurd (none_some a h)
 finish-spells (ValueDue st p) ts a m h = absurd (none_some a h)
 finish-spells (MinusRead st) ts a m h = absurd (none_some a h)
 
+-- some words that can be written make a statement of these
+pub record SaidFront (ts : List Token) : Type 0 where
+  pub rest : List Token
+  pub statement : Statement
+  pub words : List (List ℕ)
+  pub says : AllSay words rest
+  pub spells : Spells (ts ++ rest) statement
+
 -- the front of a front
-shorter : (ts us : List Token) → IsFront (ts ++ us) → IsFront ts
-shorter ts us front = (us ++ front.0, front.1, subst (λ l. Spells l front.1) (append_assoc ts us front.0) front.2)
+shorter : (ts us : List Token) (ws : List (List ℕ)) → AllSay ws us → SaidFront (ts ++ us) → SaidFront ts
+shorter ts us ws say front = record {
+  rest = us ++ front.rest;
+  statement = front.statement;
+  words = ws ++ front.words;
+  says = AllSay-append ws front.words us front.rest say front.says;
+  spells = subst (λ l. Spells l front.statement) (append_assoc ts us front.rest) front.spells
+}
 
-spelled-front : (ts : List Token) (st : Statement) → Spells ts st → IsFront ts
-spelled-front ts st spells = ([], st, subst (λ l. Spells l st) (sym (append-nil ts)) spells)
+spelled-front : (ts : List Token) (st : Statement) → Spells ts st → SaidFront ts
+spelled-front ts st spells = record {
+  rest = [];
+  statement = st;
+  words = [];
+  says = tt;
+  spells = subst (λ l. Spells l st) (sym (append-nil ts)) spells
+}
 
-whole-front : (st : Statement) (ts : List Token) → IsBody true st ts → IsFront ts
+to_key-says : (g : Giving) → Says (to_key g) (key (to_key g))
+to_key-says giving.Grant = record { word = refl; token = refl }
+to_key-says giving.Revoke = record { word = refl; token = refl }
+
+whole-front : (st : Statement) (ts : List Token) → IsBody true st ts → SaidFront ts
 whole-front st ts body = spelled-front ts st (bare st ts body)
 
 -- DEFAULT is a value of every parameter
@@ -108,30 +137,30 @@ default_value parameter.Cascade = (_, refl)
 default_value parameter.ResourcePool = (_, refl)
 default_value parameter.MemoryCap = (_, refl)
 
-due-front : (st : Statement) (p : Parameter) (ts : List Token) → IsValueDue st p ts → IsFront ts
+due-front : (st : Statement) (p : Parameter) (ts : List Token) → IsValueDue st p ts → SaidFront ts
 due-front st p ts at =
     let value = default_value p in
-    shorter ts (key (codes "DEFAULT") ∷ [])
+    shorter ts (key (codes "DEFAULT") ∷ []) (codes "DEFAULT" ∷ []) (record { word = refl; token = refl }, tt)
       (whole-front (set st value.0) (ts ++ key (codes "DEFAULT") ∷ [])
         (set-means st p ts (key (codes "DEFAULT") ∷ []) value.0 at (one p value.0 (key (codes "DEFAULT")) value.1)))
 
 -- an ALTER without a parameter
-alter_pool-front : (n : Name) → IsFront (path (NameDue verb.Alter kind.Pool) ++ name n ∷ [])
+alter_pool-front : (n : Name) → SaidFront (path (NameDue verb.Alter kind.Pool) ++ name n ∷ [])
 alter_pool-front n =
-    shorter (path (NameDue verb.Alter kind.Pool) ++ name n ∷ []) (key (codes "MEMORYSIZE") ∷ [])
+    shorter (path (NameDue verb.Alter kind.Pool) ++ name n ∷ []) (key (codes "MEMORYSIZE") ∷ []) (codes "MEMORYSIZE" ∷ []) (record { word = refl; token = refl }, tt)
       (due-front _ parameter.MemorySize _
         (due false _ _ (key (codes "MEMORYSIZE")) parameter.MemorySize (alter_pool n) refl refl))
 
-alter_user-front : (n : Name) → IsFront (path (NameDue verb.Alter kind.User) ++ name n ∷ [])
+alter_user-front : (n : Name) → SaidFront (path (NameDue verb.Alter kind.User) ++ name n ∷ [])
 alter_user-front n =
-    shorter (path (NameDue verb.Alter kind.User) ++ name n ∷ []) (key (codes "MEMORYCAP") ∷ [])
+    shorter (path (NameDue verb.Alter kind.User) ++ name n ∷ []) (key (codes "MEMORYCAP") ∷ []) (codes "MEMORYCAP" ∷ []) (record { word = refl; token = refl }, tt)
       (due-front _ parameter.MemoryCap _
         (due false _ _ (key (codes "MEMORYCAP")) parameter.MemoryCap (alter_user n) refl refl))
 
 true_false : ◌≡◌ {A = Bool} true false → ⊥
 true_false h = cc
 
-begun-front : (b : Bool) (st : Statement) (ts : List Token) → b ≡ false → IsBody b st ts → IsFront ts
+begun-front : (b : Bool) (st : Statement) (ts : List Token) → b ≡ false → IsBody b st ts → SaidFront ts
 begun-front _ _ _ h (alter_pool n) = alter_pool-front n
 begun-front _ _ _ h (alter_user n) = alter_user-front n
 begun-front _ _ _ h (create_pool n) = absurd (true_false h)
@@ -147,101 +176,102 @@ begun-front _ _ _ h (grant_role r u) = absurd (true_false h)
 begun-front _ _ _ h (revoke_role r u) = absurd (true_false h)
 begun-front _ _ _ h (named b st ts t p x vs body is fresh value) = absurd (true_false h)
 
-pub body-front : (b : Bool) (st : Statement) (ts : List Token) → IsBody b st ts → IsFront ts
+pub body-front : (b : Bool) (st : Statement) (ts : List Token) → IsBody b st ts → SaidFront ts
 body-front true st ts body = whole-front st ts body
 body-front false st ts body = begun-front false st ts refl body
 
 -- each state that has no body yet, from the one that follows it
-role_pool-front : (n : Name) → IsFront (path (RolePool n))
+role_pool-front : (n : Name) → SaidFront (path (RolePool n))
 role_pool-front n =
-    shorter (path (RolePool n)) (key (codes "NONE") ∷ [])
+    shorter (path (RolePool n)) (key (codes "NONE") ∷ []) (codes "NONE" ∷ []) (record { word = refl; token = refl }, tt)
       (whole-front _ _ (alter_role n None (key (codes "NONE")) refl))
 
-role_resource-front : (n : Name) → IsFront (path (RoleResource n))
-role_resource-front n = shorter (path (RoleResource n)) (key (codes "POOL") ∷ []) (role_pool-front n)
+role_resource-front : (n : Name) → SaidFront (path (RoleResource n))
+role_resource-front n = shorter (path (RoleResource n)) (key (codes "POOL") ∷ []) (codes "POOL" ∷ []) (record { word = refl; token = refl }, tt) (role_pool-front n)
 
-role_named-front : (n : Name) → IsFront (path (RoleNamed n))
-role_named-front n = shorter (path (RoleNamed n)) (key (codes "RESOURCE") ∷ []) (role_resource-front n)
+role_named-front : (n : Name) → SaidFront (path (RoleNamed n))
+role_named-front n = shorter (path (RoleNamed n)) (key (codes "RESOURCE") ∷ []) (codes "RESOURCE" ∷ []) (record { word = refl; token = refl }, tt) (role_resource-front n)
 
-name_due-front : (v : Verb) (k : Kind) → IsFront (path (NameDue v k))
-name_due-front verb.Create kind.Pool = shorter (path (NameDue verb.Create kind.Pool)) (name general ∷ []) (whole-front _ _ (create_pool general))
-name_due-front verb.Create kind.User = shorter (path (NameDue verb.Create kind.User)) (name general ∷ []) (whole-front _ _ (create_user general))
-name_due-front verb.Create kind.Role = shorter (path (NameDue verb.Create kind.Role)) (name general ∷ []) (whole-front _ _ (create_role general))
-name_due-front verb.Alter kind.Pool = shorter (path (NameDue verb.Alter kind.Pool)) (name general ∷ []) (alter_pool-front general)
-name_due-front verb.Alter kind.User = shorter (path (NameDue verb.Alter kind.User)) (name general ∷ []) (alter_user-front general)
-name_due-front verb.Alter kind.Role = shorter (path (NameDue verb.Alter kind.Role)) (name general ∷ []) (role_named-front general)
-name_due-front verb.Drop kind.Pool = shorter (path (NameDue verb.Drop kind.Pool)) (name general ∷ []) (whole-front _ _ (drop_pool general))
-name_due-front verb.Drop kind.User = shorter (path (NameDue verb.Drop kind.User)) (name general ∷ []) (whole-front _ _ (drop_user general))
-name_due-front verb.Drop kind.Role = shorter (path (NameDue verb.Drop kind.Role)) (name general ∷ []) (whole-front _ _ (drop_role general))
+name_due-front : (v : Verb) (k : Kind) → SaidFront (path (NameDue v k))
+name_due-front verb.Create kind.Pool = shorter (path (NameDue verb.Create kind.Pool)) (name general ∷ []) (name_text general ∷ []) (name-says general, tt) (whole-front _ _ (create_pool general))
+name_due-front verb.Create kind.User = shorter (path (NameDue verb.Create kind.User)) (name general ∷ []) (name_text general ∷ []) (name-says general, tt) (whole-front _ _ (create_user general))
+name_due-front verb.Create kind.Role = shorter (path (NameDue verb.Create kind.Role)) (name general ∷ []) (name_text general ∷ []) (name-says general, tt) (whole-front _ _ (create_role general))
+name_due-front verb.Alter kind.Pool = shorter (path (NameDue verb.Alter kind.Pool)) (name general ∷ []) (name_text general ∷ []) (name-says general, tt) (alter_pool-front general)
+name_due-front verb.Alter kind.User = shorter (path (NameDue verb.Alter kind.User)) (name general ∷ []) (name_text general ∷ []) (name-says general, tt) (alter_user-front general)
+name_due-front verb.Alter kind.Role = shorter (path (NameDue verb.Alter kind.Role)) (name general ∷ []) (name_text general ∷ []) (name-says general, tt) (role_named-front general)
+name_due-front verb.Drop kind.Pool = shorter (path (NameDue verb.Drop kind.Pool)) (name general ∷ []) (name_text general ∷ []) (name-says general, tt) (whole-front _ _ (drop_pool general))
+name_due-front verb.Drop kind.User = shorter (path (NameDue verb.Drop kind.User)) (name general ∷ []) (name_text general ∷ []) (name-says general, tt) (whole-front _ _ (drop_user general))
+name_due-front verb.Drop kind.Role = shorter (path (NameDue verb.Drop kind.Role)) (name general ∷ []) (name_text general ∷ []) (name-says general, tt) (whole-front _ _ (drop_role general))
 
-verbed-front : (v : Verb) → IsFront (path (Verbed v))
-verbed-front v = shorter (path (Verbed v)) (key (codes "ROLE") ∷ []) (name_due-front v kind.Role)
+verbed-front : (v : Verb) → SaidFront (path (Verbed v))
+verbed-front v = shorter (path (Verbed v)) (key (codes "ROLE") ∷ []) (codes "ROLE" ∷ []) (record { word = refl; token = refl }, tt) (name_due-front v kind.Role)
 
-usage_to-front : (g : Giving) (p : Name) → IsFront (path (UsageTo g p))
-usage_to-front g p = shorter (path (UsageTo g p)) (name general ∷ []) (whole-front _ _ (usage-means g p general))
+usage_to-front : (g : Giving) (p : Name) → SaidFront (path (UsageTo g p))
+usage_to-front g p = shorter (path (UsageTo g p)) (name general ∷ []) (name_text general ∷ []) (name-says general, tt) (whole-front _ _ (usage-means g p general))
 
-usage_of-front : (g : Giving) (p : Name) → IsFront (path (UsageOf g p))
-usage_of-front g p = shorter (path (UsageOf g p)) (key (to_key g) ∷ []) (usage_to-front g p)
+usage_of-front : (g : Giving) (p : Name) → SaidFront (path (UsageOf g p))
+usage_of-front g p = shorter (path (UsageOf g p)) (key (to_key g) ∷ []) (to_key g ∷ []) (to_key-says g, tt) (usage_to-front g p)
 
-usage_pool-front : (g : Giving) → IsFront (path (UsagePool g))
-usage_pool-front g = shorter (path (UsagePool g)) (name general ∷ []) (usage_of-front g general)
+usage_pool-front : (g : Giving) → SaidFront (path (UsagePool g))
+usage_pool-front g = shorter (path (UsagePool g)) (name general ∷ []) (name_text general ∷ []) (name-says general, tt) (usage_of-front g general)
 
-usage_resource-front : (g : Giving) → IsFront (path (UsageResource g))
-usage_resource-front g = shorter (path (UsageResource g)) (key (codes "POOL") ∷ []) (usage_pool-front g)
+usage_resource-front : (g : Giving) → SaidFront (path (UsageResource g))
+usage_resource-front g = shorter (path (UsageResource g)) (key (codes "POOL") ∷ []) (codes "POOL" ∷ []) (record { word = refl; token = refl }, tt) (usage_pool-front g)
 
-usage_on-front : (g : Giving) → IsFront (path (UsageOn g))
-usage_on-front g = shorter (path (UsageOn g)) (key (codes "RESOURCE") ∷ []) (usage_resource-front g)
+usage_on-front : (g : Giving) → SaidFront (path (UsageOn g))
+usage_on-front g = shorter (path (UsageOn g)) (key (codes "RESOURCE") ∷ []) (codes "RESOURCE" ∷ []) (record { word = refl; token = refl }, tt) (usage_resource-front g)
 
-usage-front : (g : Giving) → IsFront (path (Usage g))
-usage-front g = shorter (path (Usage g)) (key (codes "ON") ∷ []) (usage_on-front g)
+usage-front : (g : Giving) → SaidFront (path (Usage g))
+usage-front g = shorter (path (Usage g)) (key (codes "ON") ∷ []) (codes "ON" ∷ []) (record { word = refl; token = refl }, tt) (usage_on-front g)
 
-role_to-front : (g : Giving) (r : Name) → IsFront (path (RoleTo g r))
-role_to-front g r = shorter (path (RoleTo g r)) (name general ∷ []) (whole-front _ _ (role-means g r general))
+role_to-front : (g : Giving) (r : Name) → SaidFront (path (RoleTo g r))
+role_to-front g r = shorter (path (RoleTo g r)) (name general ∷ []) (name_text general ∷ []) (name-says general, tt) (whole-front _ _ (role-means g r general))
 
-role_of-front : (g : Giving) (r : Name) → IsFront (path (RoleOf g r))
-role_of-front g r = shorter (path (RoleOf g r)) (key (to_key g) ∷ []) (role_to-front g r)
+role_of-front : (g : Giving) (r : Name) → SaidFront (path (RoleOf g r))
+role_of-front g r = shorter (path (RoleOf g r)) (key (to_key g) ∷ []) (to_key g ∷ []) (to_key-says g, tt) (role_to-front g r)
 
-keyed-front : (st : Statement) (p : Parameter) (k : List ℕ) (ts : List Token) → more_keys p ≡ key k ∷ [] → IsKeyed st p ts → IsFront ts
-keyed-front st p k ts more at = shorter ts (key k ∷ []) (due-front st p (ts ++ key k ∷ []) (more-means st p k ts more at))
+keyed-front : (st : Statement) (p : Parameter) (k : List ℕ) (ts : List Token) → Says k (key k) → more_keys p ≡ key k ∷ [] → IsKeyed st p ts
+  → SaidFront ts
+keyed-front st p k ts say more at = shorter ts (key k ∷ []) (k ∷ []) (say, tt) (due-front st p (ts ++ key k ∷ []) (more-means st p k ts more at))
 
-minus-front : (st : Statement) (ts : List Token) → IsMinusRead st ts → IsFront ts
+minus-front : (st : Statement) (ts : List Token) → IsMinusRead st ts → SaidFront ts
 minus-front _ _ (minus_read st ts at) =
-    shorter (ts ++ Sign symbol.Minus ∷ []) (Number 0 ∷ [])
-      (subst (λ l. IsFront l) (sym (append_assoc ts (Sign symbol.Minus ∷ []) (Number 0 ∷ [])))
+    shorter (ts ++ Sign symbol.Minus ∷ []) (Number 0 ∷ []) (decimal 0 ∷ []) (number_says 0 (lit< tt), tt)
+      (subst (λ l. SaidFront l) (sym (append_assoc ts (Sign symbol.Minus ∷ []) (Number 0 ∷ [])))
         (whole-front _ _ (set-means st parameter.Priority ts (Sign symbol.Minus ∷ Number 0 ∷ []) _ at (minus _ (Number 0) refl))))
 
-ended-front : (st : Statement) (ts : List Token) → IsEnded st ts → IsFront ts
+ended-front : (st : Statement) (ts : List Token) → IsEnded st ts → SaidFront ts
 ended-front _ _ (is_ended st ts body) = spelled-front (ts ++ Sign symbol.Semicolon ∷ []) st (ended st ts body)
 
 -- whatever was read, some statement begins so
-pub means-front : (p : Progress) (ts : List Token) → Means p ts → IsFront ts
-means-front Start ts m = subst (λ l. IsFront l) (sym m) (shorter [] (key (codes "DROP") ∷ []) (verbed-front verb.Drop))
-means-front (Verbed v) ts m = subst (λ l. IsFront l) (sym m) (verbed-front v)
+pub means-front : (p : Progress) (ts : List Token) → Means p ts → SaidFront ts
+means-front Start ts m = subst (λ l. SaidFront l) (sym m) (shorter [] (key (codes "DROP") ∷ []) (codes "DROP" ∷ []) (record { word = refl; token = refl }, tt) (verbed-front verb.Drop))
+means-front (Verbed v) ts m = subst (λ l. SaidFront l) (sym m) (verbed-front v)
 means-front (OfResource v) ts m =
-    subst (λ l. IsFront l) (sym m) (shorter (path (OfResource v)) (key (codes "POOL") ∷ []) (name_due-front v kind.Pool))
-means-front (NameDue v k) ts m = subst (λ l. IsFront l) (sym m) (name_due-front v k)
+    subst (λ l. SaidFront l) (sym m) (shorter (path (OfResource v)) (key (codes "POOL") ∷ []) (codes "POOL" ∷ []) (record { word = refl; token = refl }, tt) (name_due-front v kind.Pool))
+means-front (NameDue v k) ts m = subst (λ l. SaidFront l) (sym m) (name_due-front v k)
 means-front (Given g) ts m =
-    subst (λ l. IsFront l) (sym m) (shorter (path (Given g)) (name general ∷ []) (role_of-front g general))
-means-front (Usage g) ts m = subst (λ l. IsFront l) (sym m) (usage-front g)
-means-front (UsageOn g) ts m = subst (λ l. IsFront l) (sym m) (usage_on-front g)
-means-front (UsageResource g) ts m = subst (λ l. IsFront l) (sym m) (usage_resource-front g)
-means-front (UsagePool g) ts m = subst (λ l. IsFront l) (sym m) (usage_pool-front g)
-means-front (UsageOf g p) ts m = subst (λ l. IsFront l) (sym m) (usage_of-front g p)
-means-front (UsageTo g p) ts m = subst (λ l. IsFront l) (sym m) (usage_to-front g p)
-means-front (RoleOf g r) ts m = subst (λ l. IsFront l) (sym m) (role_of-front g r)
-means-front (RoleTo g r) ts m = subst (λ l. IsFront l) (sym m) (role_to-front g r)
-means-front (RoleNamed n) ts m = subst (λ l. IsFront l) (sym m) (role_named-front n)
-means-front (RoleResource n) ts m = subst (λ l. IsFront l) (sym m) (role_resource-front n)
-means-front (RolePool n) ts m = subst (λ l. IsFront l) (sym m) (role_pool-front n)
+    subst (λ l. SaidFront l) (sym m) (shorter (path (Given g)) (name general ∷ []) (name_text general ∷ []) (name-says general, tt) (role_of-front g general))
+means-front (Usage g) ts m = subst (λ l. SaidFront l) (sym m) (usage-front g)
+means-front (UsageOn g) ts m = subst (λ l. SaidFront l) (sym m) (usage_on-front g)
+means-front (UsageResource g) ts m = subst (λ l. SaidFront l) (sym m) (usage_resource-front g)
+means-front (UsagePool g) ts m = subst (λ l. SaidFront l) (sym m) (usage_pool-front g)
+means-front (UsageOf g p) ts m = subst (λ l. SaidFront l) (sym m) (usage_of-front g p)
+means-front (UsageTo g p) ts m = subst (λ l. SaidFront l) (sym m) (usage_to-front g p)
+means-front (RoleOf g r) ts m = subst (λ l. SaidFront l) (sym m) (role_of-front g r)
+means-front (RoleTo g r) ts m = subst (λ l. SaidFront l) (sym m) (role_to-front g r)
+means-front (RoleNamed n) ts m = subst (λ l. SaidFront l) (sym m) (role_named-front n)
+means-front (RoleResource n) ts m = subst (λ l. SaidFront l) (sym m) (role_resource-front n)
+means-front (RolePool n) ts m = subst (λ l. SaidFront l) (sym m) (role_pool-front n)
 means-front (Part b st) ts m = body-front b st ts m
-means-front (CascadeTo st) ts m = keyed-front st parameter.Cascade (codes "TO") ts refl m
-means-front (UserPool st) ts m = keyed-front st parameter.ResourcePool (codes "POOL") ts refl m
+means-front (CascadeTo st) ts m = keyed-front st parameter.Cascade (codes "TO") ts (record { word = refl; token = refl }) refl m
+means-front (UserPool st) ts m = keyed-front st parameter.ResourcePool (codes "POOL") ts (record { word = refl; token = refl }) refl m
 means-front (ValueDue st p) ts m = due-front st p ts m
 means-front (MinusRead st) ts m = minus-front st ts m
 means-front (Ended st) ts m = ended-front st ts m
 
 pub read-front : (ts : List Token) (p : Progress) → run Start ts ≡ Ok p → IsFront ts
-read-front ts p h = means-front p ts (sound ts p h)
+read-front ts p h = let front = means-front p ts (sound ts p h) in (front.rest, front.statement, front.spells)
 
 -- a front is read
 front-turn : (r : Stepped) (rest : List Token) (last : Progress) → onward r (λ q. run q rest) ≡ Ok last
@@ -253,6 +283,10 @@ pub front-read : (ts : List Token) → IsFront ts → (q : Progress) × (run Sta
 front-read ts front =
     let gives = spells-gives (ts ++ front.0) front.1 front.2 in
     front-turn (run Start ts) front.0 gives.last (sym (run-append Start ts front.0) ∙ gives.reads)
+
+-- a front is one of words that can be written
+pub said-front : (ts : List Token) → IsFront ts → SaidFront ts
+said-front ts front = let read = front-read ts front in means-front read.0 ts (sound ts read.0 read.1)
 
 -- what stops a step is no front
 pub stopped-no_front : (ts : List Token) (t : Token) (p : Progress) (why : Stop) → run Start ts ≡ Ok p → step p t ≡ Err why

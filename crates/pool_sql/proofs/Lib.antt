@@ -1,5 +1,6 @@
 pub mod NameLemmas
 pub mod Keys
+pub mod Saying
 pub mod Means
 pub mod Complete
 pub mod Fronts

@@ -56,32 +56,7 @@ use Rattle.pool_sql.specs.Value.{as_setting, is_default, is_none, negative_of, o
 use Rattle.pool_sql.proofs.Keys.{is_key-eq}
 use Rattle.pool_sql.proofs.NameLemmas.{name_called-none, name_called-text}
 use Rattle.pool_sql.proofs.Rights.{IsRightValue}
-
--- words say tokens, one each
-abbrev pub AllSay : List (List ℕ) → List Token → Type 0
-AllSay [] [] = Unit {0}
-AllSay (w ∷ ws) (t ∷ ts) = Says w t × AllSay ws ts
-AllSay _ _ = ⊥
-
-AllSay-append : (ws us : List (List ℕ)) (ts vs : List Token) → AllSay ws ts → AllSay us vs → AllSay (ws ++ us) (ts ++ vs)
-AllSay-append [] us [] vs a b = b
-AllSay-append [] us (t ∷ ts) vs a b = absurd a
-AllSay-append (w ∷ ws) us [] vs a b = absurd a
-AllSay-append (w ∷ ws) us (t ∷ ts) vs a b = (a.0, AllSay-append ws us ts vs a.1 b)
-
-are_words : (ws : List (List ℕ)) (ts : List Token) → AllSay ws ts → AreWords ws
-are_words [] ts a = tt
-are_words (w ∷ ws) [] a = absurd a
-are_words (w ∷ ws) (t ∷ ts) a = (a.0.word, are_words ws ts a.1)
-
-cons_same : (a b : Token) (us vs : List Token) → a ≡ b → us ≡ vs → a ∷ us ≡ b ∷ vs
-cons_same a b us vs h t = cc
-
-tokens_said : (ws : List (List ℕ)) (ts : List Token) → AllSay ws ts → map token_of ws ≡ ts
-tokens_said [] [] a = refl
-tokens_said [] (t ∷ ts) a = absurd a
-tokens_said (w ∷ ws) [] a = absurd a
-tokens_said (w ∷ ws) (t ∷ ts) a = cons_same (token_of w) t (map token_of ws) ts a.0.token (tokens_said ws ts a.1)
+use Rattle.pool_sql.proofs.Saying.{AllSay, AllSay-append, name-says, said-spells}
 
 -- words behind a first one, each behind a blank
 abbrev pub spaced : List (List ℕ) → List ℕ
@@ -95,47 +70,6 @@ spaced-append (w ∷ ws) us = ap (λ l. 32 ∷ l) (ap (λ l. w ++ l) (spaced-app
 joined-spaced : (w : List ℕ) (ws : List (List ℕ)) → joined (w ∷ ws) ≡ w ++ spaced ws
 joined-spaced w [] = sym (append-nil w)
 joined-spaced w (v ∷ vs) = ap (λ l. w ++ 32 ∷ l) (joined-spaced v vs)
-
--- a name says itself
-goes_on-name : (c : ℕ) → continues_name c ≡ true → goes_on (class_of c) ≡ true
-goes_on-name c h = grind (arith, nat_tests)
-
-begins-letter : (c : ℕ) → begins_name c ≡ true → class_of c ≡ class.Letter
-begins-letter c h = grind (arith, nat_tests)
-
-begins-continues : (c : ℕ) → begins_name c ≡ true → continues_name c ≡ true
-begins-continues c h = ap (λ b. b || (nat_le 48 c && nat_le c 57)) h
-
-lower-name : (c : ℕ) → continues_name c ≡ true → to_ascii_lowercase c ≡ c
-lower-name c h = grind (arith, nat_tests)
-
-all_go_on : (cs : List ℕ) → list_all continues_name cs ≡ true → list_all goes_on (map class_of cs) ≡ true
-all_go_on [] h = refl
-all_go_on (c ∷ cs) h =
-    let parts = and_parts (continues_name c) (list_all continues_name cs) h in
-    ap (λ b. b && list_all goes_on (map class_of cs)) (goes_on-name c parts.0) ∙ all_go_on cs parts.1
-
-folded-name : (cs : List ℕ) → list_all continues_name cs ≡ true → folded cs ≡ cs
-folded-name [] h = refl
-folded-name (c ∷ cs) h =
-    let parts = and_parts (continues_name c) (list_all continues_name cs) h in
-    let first : to_ascii_lowercase c ≡ c = lower-name c parts.0 in
-    let rest : folded cs ≡ cs = folded-name cs parts.1 in
-    ap (λ x. x ∷ folded cs) first ∙ ap (λ l. c ∷ l) rest
-
-bare_name-says : (w : List ℕ) → is_bare_name w ≡ true → Says w (Bare w)
-bare_name-says [] h = absurd cc
-bare_name-says (c ∷ cs) h =
-    let parts = and_parts (begins_name c) (list_all continues_name cs) h in
-    let bare_word : is_bare (map class_of (c ∷ cs)) ≡ true =
-      ap (λ k. is_bare (k ∷ map class_of cs)) (begins-letter c parts.0) ∙ all_go_on cs parts.1 in
-    let all : list_all continues_name (c ∷ cs) ≡ true =
-      ap (λ b. b && list_all continues_name cs) (begins-continues c parts.0) ∙ parts.1 in
-    let says = bare_says (c ∷ cs) bare_word in
-    record { word = says.word; token = says.token ∙ ap (λ l. Bare l) (folded-name (c ∷ cs) all) }
-
-pub name-says : (n : Name) → Says (name_text n) (name n)
-name-says n = bare_name-says (name_text n) (IsNameText-from (name_text n) (KeepsName-from n.bytes n.kept).text).bare
 
 -- digits
 digit_small : (c : ℕ) → digit_value c < 10 → IsInRange 48 57 c
@@ -775,22 +709,10 @@ whole-body : (b : Bool) (st : Statement) (ts : List Token) → IsBody b st ts �
 whole-body true st ts body right = body
 whole-body false st ts body right = absurd (begun-wrong false st ts refl body right)
 
-tokens_in-words : (text : List ℕ) (spans : List Span) → tokens_in text spans ≡ map token_of (words_at text spans)
-tokens_in-words text [] = refl
-tokens_in-words text (span ∷ spans) = ap (λ l. token_of (word_at text span) ∷ l) (tokens_in-words text spans)
-
-said-spells : (st : Statement) (ws : List (List ℕ)) (ts : List Token) → IsBody true st ts → AllSay ws ts → SpellsText (joined ws) st
-said-spells st ws ts body says =
-    let text : List ℕ = joined ws in
-    let spans = spans_from 0 ws in
-    let same : tokens_in text spans ≡ ts =
-      tokens_in-words text spans ∙ ap (map token_of) (joined_words text 0 ws refl) ∙ tokens_said ws ts says in
-    (spans, joined_is_cut 0 ws (are_words ws ts says), subst (λ l. Spells l st) (sym same) (bare st ts body))
-
 -- the printed text of a right statement is spelled as it
 pub right-spells : (st : Statement) → IsRight st → SpellsText (statement_text st) st
 right-spells st right =
     let prints = statement-prints st right in
     subst (λ text. SpellsText text st) (joined-spaced prints.first prints.rest ∙ prints.spaces)
       (said-spells st (prints.first ∷ prints.rest) prints.tokens
-        (whole-body prints.whole st prints.tokens prints.body right) prints.says)
+        (bare st prints.tokens (whole-body prints.whole st prints.tokens prints.body right)) prints.says)

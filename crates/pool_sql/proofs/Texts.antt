@@ -1,11 +1,11 @@
 -- laws of whole texts
-use Rattle.std.proofs.Common.{◌≡◌, ℕ, ◌⊎◌, inl, inr, Option, Some, None, Result, Ok, Err, List, [], ◌∷◌, ◌++◌, length, refl, sym, ◌∙◌, ap, subst, append-nil}
+use Rattle.std.proofs.Common.{◌≡◌, ℕ, ◌⊎◌, inl, inr, Option, Some, None, Result, Ok, Err, List, [], ◌∷◌, ◌++◌, length, map, refl, sym, ◌∙◌, ap, subst, append-nil}
 use Rattle.rm_base.specs.declared.refusal.Refusal.{Refusal}
 use Rattle.rm_base.specs.declared.refusal.Refusal.TheVariants as refusal
 use Rattle.rm_base.specs.declared.statement.Statement.{Statement}
 use Rattle.rm_words.specs.declared.spans.Span.{Span}
-use Rattle.rm_words.specs.Cut.{IsCut}
-use Rattle.rm_words.specs.Token.{Token}
+use Rattle.rm_words.specs.Cut.{AreWords, IsCut}
+use Rattle.rm_words.specs.Token.{Token, token_of}
 use Rattle.rm_words.proofs.CutLaws.{same_cut}
 use Rattle.pool_sql.specs.declared.progress.Progress.{Progress}
 use Rattle.pool_sql.specs.declared.progress.Progress.TheVariants.{Start}
@@ -14,11 +14,12 @@ use Rattle.pool_sql.specs.declared.stop.Stop.TheVariants as stop
 use Rattle.pool_sql.specs.Grammar.{IsFront, IsWhy, Spells}
 use Rattle.pool_sql.specs.Machine.{Stepped, finish, onward, run, step}
 use Rattle.pool_sql.specs.Right.{IsRight}
-use Rattle.pool_sql.specs.Text.{IsRefused, at_word, at_gap, at_end, IsWellFormed, SpellsText, refusal_at, token_in, tokens_in}
+use Rattle.pool_sql.specs.Text.{IsRefused, at_word, at_gap, at_end, IsWellFormed, BeginsText, SpellsText, refusal_at, token_in, tokens_in}
 use Rattle.pool_sql.specs.Reading.{ends, finished, next_word, read_on}
+use Rattle.pool_sql.proofs.Saying.{AllSay-append, said-spells, words_say}
 use Rattle.pool_sql.proofs.Means.{not_err, ok_is}
 use Rattle.pool_sql.proofs.Complete.{run-after, spells-gives}
-use Rattle.pool_sql.proofs.Fronts.{finish-spells, front-read, read-front, sound}
+use Rattle.pool_sql.proofs.Fronts.{finish-spells, front-read, read-front, said-front, sound}
 use Rattle.pool_sql.proofs.Blamed.{stopped-why, why_one}
 use Rattle.pool_sql.proofs.Rights.{spelled-right}
 
@@ -135,3 +136,11 @@ text-refused_spells_none text why st x y = err_ok why st (one_answer text (Err w
 
 pub well_formed-right : (st : Statement) → IsWellFormed st → IsRight st
 well_formed-right st is = let spelled = is.1 in spelled-right (tokens_in is.0 spelled.0) st spelled.2
+
+-- words with which some statement begins are the first words of a text that is one
+pub front-text : (ws : List (List ℕ)) → AreWords ws → IsFront (map token_of ws) → BeginsText ws
+front-text ws are is_front =
+    let front = said-front (map token_of ws) is_front in
+    (front.words, front.statement,
+      said-spells front.statement (ws ++ front.words) (map token_of ws ++ front.rest) front.spells
+        (AllSay-append ws front.words (map token_of ws) front.rest (words_say ws are) front.says))

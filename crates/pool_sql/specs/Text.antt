@@ -4,7 +4,7 @@ use Rattle.rm_base.specs.declared.refusal.Refusal.{Refusal}
 use Rattle.rm_base.specs.declared.refusal.Refusal.TheVariants as refusal
 use Rattle.rm_base.specs.declared.statement.Statement.{Statement}
 use Rattle.rm_words.specs.declared.spans.Span.{Span}
-use Rattle.rm_words.specs.Cut.{IsCut, word_at}
+use Rattle.rm_words.specs.Cut.{IsCut, joined, word_at}
 use Rattle.rm_words.specs.Token.{Token, token_of}
 use Rattle.pool_sql.specs.declared.stop.Stop.{Stop}
 use Rattle.pool_sql.specs.declared.stop.Stop.TheVariants as stop
@@ -24,6 +24,10 @@ SpellsText text st = (spans : List Span) × IsCut 0 text spans None × Spells (t
 -- some text is the statement
 abbrev pub IsWellFormed : Statement → Type 0
 IsWellFormed st = (text : List ℕ) × SpellsText text st
+
+-- some text that begins with these words is a statement
+abbrev pub BeginsText : List (List ℕ) → Type 0
+BeginsText ws = (more : List (List ℕ)) × (st : Statement) × SpellsText (joined (ws ++ more)) st
 
 -- the refusal for a word that starts at a place
 abbrev pub refusal_at : ℕ → Stop → Refusal
