@@ -39,7 +39,7 @@ use Rattle.pool_sql.proofs.NameLemmas.{name_called-text}
 
 -- what follows is read from where the front ended
 append-turn : (r : Stepped) (xs ys : List Token) → ((q : Progress) → run q (xs ++ ys) ≡ onward (run q xs) (λ p. run p ys))
-  → onward r (λ q. run q (xs ++ ys)) ≡ onward (onward r (λ q. run q xs)) (λ p. run p ys)
+    → onward r (λ q. run q (xs ++ ys)) ≡ onward (onward r (λ q. run q xs)) (λ p. run p ys)
 append-turn (Ok q) xs ys rest = rest q
 append-turn (Err why) xs ys rest = refl
 
@@ -51,7 +51,7 @@ pub run-after : (front rest : List Token) (p : Progress) → run Start front ≡
 run-after front rest p h = run-append Start front rest ∙ ap (λ r. onward r (λ q. run q rest)) h
 
 name_next : (p : Progress) (goes : Name → Progress) (n : Name) (rest : List Token)
-  → ((t : Token) → step p t ≡ on_name goes (name_of t)) → run p (name n ∷ rest) ≡ run (goes n) rest
+    → ((t : Token) → step p t ≡ on_name goes (name_of t)) → run p (name n ∷ rest) ≡ run (goes n) rest
 name_next p goes n rest steps =
     ap (λ r. onward r (λ q. run q rest)) (steps (name n) ∙ ap (λ o. on_name goes o) (name_called-text n))
 
@@ -59,27 +59,29 @@ name_next p goes n rest steps =
 usage_is : (r : Name) → name r ≡ key (codes "USAGE") → r ≡ usage_name
 usage_is r h = name_text-eq r usage_name (bare_is (name_text r) (name_text usage_name) h)
   where
-  bare_is : (a b : List ℕ) → Bare a ≡ Bare b → a ≡ b
-  bare_is a b h = cc
+    bare_is : (a b : List ℕ) → Bare a ≡ Bare b → a ≡ b
+    bare_is a b h = cc
 
 role-complete : (g : Giving) (r u : Name) → run (Given g) (name r ∷ key (to_key g) ∷ name u ∷ []) ≡ Ok (Part true (role_given g r u))
 role-complete g r u = turn g (is_key (name r) (codes "USAGE")) refl
   where
-  usage : (g : Giving) → run (Usage g) (key (to_key g) ∷ name u ∷ []) ≡ Ok (Part true (role_given g usage_name u))
-  usage giving.Grant = name_next (RoleTo giving.Grant usage_name) (λ u. Part true (role_given giving.Grant usage_name u)) u [] (λ t. refl)
-  usage giving.Revoke = name_next (RoleTo giving.Revoke usage_name) (λ u. Part true (role_given giving.Revoke usage_name u)) u [] (λ t. refl)
-  role : (g : Giving) → run (RoleOf g r) (key (to_key g) ∷ name u ∷ []) ≡ Ok (Part true (role_given g r u))
-  role giving.Grant = name_next (RoleTo giving.Grant r) (λ u. Part true (role_given giving.Grant r u)) u [] (λ t. refl)
-  role giving.Revoke = name_next (RoleTo giving.Revoke r) (λ u. Part true (role_given giving.Revoke r u)) u [] (λ t. refl)
-  turn : (g : Giving) (b : Bool) → is_key (name r) (codes "USAGE") ≡ b
-    → run (Given g) (name r ∷ key (to_key g) ∷ name u ∷ []) ≡ Ok (Part true (role_given g r u))
-  turn g true is =
-      ap (λ b. onward (if b then Ok (Usage g) else on_name (λ r. RoleOf g r) (name_of (name r))) (λ q. run q (key (to_key g) ∷ name u ∷ []))) is
-      ∙ usage g ∙ ap (λ (x : Name). let s : Stepped = Ok (Part true (role_given g x u)) in s) (sym (usage_is r (is_key-eq (name r) (codes "USAGE") is)))
-  turn g false is =
-      ap (λ b. onward (if b then Ok (Usage g) else on_name (λ r. RoleOf g r) (name_of (name r))) (λ q. run q (key (to_key g) ∷ name u ∷ []))) is
-      ∙ ap (λ o. onward (on_name (λ r. RoleOf g r) o) (λ q. run q (key (to_key g) ∷ name u ∷ []))) (name_called-text r)
-      ∙ role g
+    usage : (g : Giving) → run (Usage g) (key (to_key g) ∷ name u ∷ []) ≡ Ok (Part true (role_given g usage_name u))
+    usage giving.Grant = name_next (RoleTo giving.Grant usage_name) (λ u. Part true (role_given giving.Grant usage_name u)) u [] (λ t. refl)
+    usage giving.Revoke = name_next (RoleTo giving.Revoke usage_name) (λ u. Part true (role_given giving.Revoke usage_name u)) u [] (λ t. refl)
+
+    role : (g : Giving) → run (RoleOf g r) (key (to_key g) ∷ name u ∷ []) ≡ Ok (Part true (role_given g r u))
+    role giving.Grant = name_next (RoleTo giving.Grant r) (λ u. Part true (role_given giving.Grant r u)) u [] (λ t. refl)
+    role giving.Revoke = name_next (RoleTo giving.Revoke r) (λ u. Part true (role_given giving.Revoke r u)) u [] (λ t. refl)
+
+    turn : (g : Giving) (b : Bool) → is_key (name r) (codes "USAGE") ≡ b
+        → run (Given g) (name r ∷ key (to_key g) ∷ name u ∷ []) ≡ Ok (Part true (role_given g r u))
+    turn g true is =
+        ap (λ b. onward (if b then Ok (Usage g) else on_name (λ r. RoleOf g r) (name_of (name r))) (λ q. run q (key (to_key g) ∷ name u ∷ []))) is
+        ∙ usage g ∙ ap (λ (x : Name). let s : Stepped = Ok (Part true (role_given g x u)) in s) (sym (usage_is r (is_key-eq (name r) (codes "USAGE") is)))
+    turn g false is =
+        ap (λ b. onward (if b then Ok (Usage g) else on_name (λ r. RoleOf g r) (name_of (name r))) (λ q. run q (key (to_key g) ∷ name u ∷ []))) is
+        ∙ ap (λ o. onward (on_name (λ r. RoleOf g r) o) (λ q. run q (key (to_key g) ∷ name u ∷ []))) (name_called-text r)
+        ∙ role g
 
 keyed-run : (st : Statement) (p : Parameter) → run (keyed st p) (more_keys p) ≡ Ok (ValueDue st p)
 keyed-run st parameter.MemorySize = refl
@@ -98,7 +100,7 @@ keyed-run st parameter.ResourcePool = refl
 keyed-run st parameter.MemoryCap = refl
 
 due-complete : (b : Bool) (st : Statement) (ts : List Token) (t : Token) (p : Parameter) → run Start ts ≡ Ok (Part b st)
-  → parameter_of st t ≡ Some p → is_named p st ≡ false → run Start (ts ++ t ∷ more_keys p) ≡ Ok (ValueDue st p)
+    → parameter_of st t ≡ Some p → is_named p st ≡ false → run Start (ts ++ t ∷ more_keys p) ≡ Ok (ValueDue st p)
 due-complete b st ts t p body is fresh =
     run-after ts (t ∷ more_keys p) (Part b st) body
     ∙ ap (λ o. onward (on_parameter b st t o) (λ q. run q (more_keys p))) is
@@ -106,7 +108,7 @@ due-complete b st ts t p body is fresh =
     ∙ keyed-run st p
 
 value-complete : (st : Statement) (p : Parameter) (x : Setting) (vs : List Token) → IsValue p x vs
-  → run (ValueDue st p) vs ≡ Ok (Part true (set st x))
+    → run (ValueDue st p) vs ≡ Ok (Part true (set st x))
 value-complete st _ _ _ (one p x t is) = ap (λ r. onward (on_value st p t r) (λ q. run q [])) is
 value-complete st _ _ _ (minus n t is) = ap (λ r. onward (on_negative st r) (λ q. run q [])) is
 
@@ -153,7 +155,7 @@ spells-gives _ _ (bare st ts body) = record { last = Part true st; reads = compl
 spells-gives _ _ (ended st ts body) = record {
   last = Ended st;
   reads =
-    run-after ts (Sign symbol.Semicolon ∷ []) (Part true st) (complete true st ts body)
-    ∙ ap (λ o. onward (on_parameter true st (Sign symbol.Semicolon) o) (λ q. run q [])) (sign_names_none symbol.Semicolon (parameters st));
-  gives = refl
+      run-after ts (Sign symbol.Semicolon ∷ []) (Part true st) (complete true st ts body)
+      ∙ ap (λ o. onward (on_parameter true st (Sign symbol.Semicolon) o) (λ q. run q [])) (sign_names_none symbol.Semicolon (parameters st));
+  gives = refl;
 }

@@ -41,9 +41,9 @@ use Rattle.pool_sql.proofs.Complete.{Gives, run-after, run-append, spells-gives}
 
 -- what is read has its meaning
 means-turn : (p : Progress) (us : List Token) (t : Token) (ts : List Token) (q : Progress) (r : Stepped) → step p t ≡ r → Means p us
-  → onward r (λ s. run s ts) ≡ Ok q
-  → ((s : Progress) → Means s (us ++ t ∷ []) → run s ts ≡ Ok q → Means q ((us ++ t ∷ []) ++ ts))
-  → Means q (us ++ t ∷ ts)
+    → onward r (λ s. run s ts) ≡ Ok q
+    → ((s : Progress) → Means s (us ++ t ∷ []) → run s ts ≡ Ok q → Means q ((us ++ t ∷ []) ++ ts))
+    → Means q (us ++ t ∷ ts)
 means-turn p us t ts q (Ok s) is m h rest =
     subst (λ l. Means q l) (append_assoc us (t ∷ []) ts) (rest s (step-means p us t s m is) h)
 means-turn p us t ts q (Err why) is m h rest = absurd (not_err why q h)
@@ -101,7 +101,7 @@ shorter ts us ws say front = record {
   statement = front.statement;
   words = ws ++ front.words;
   says = AllSay-append ws front.words us front.rest say front.says;
-  spells = subst (λ l. Spells l front.statement) (append_assoc ts us front.rest) front.spells
+  spells = subst (λ l. Spells l front.statement) (append_assoc ts us front.rest) front.spells;
 }
 
 spelled-front : (ts : List Token) (st : Statement) → Spells ts st → SaidFront ts
@@ -110,7 +110,7 @@ spelled-front ts st spells = record {
   statement = st;
   words = [];
   says = tt;
-  spells = subst (λ l. Spells l st) (sym (append-nil ts)) spells
+  spells = subst (λ l. Spells l st) (sym (append-nil ts)) spells;
 }
 
 to_key-says : (g : Giving) → Says (to_key g) (key (to_key g))
@@ -141,21 +141,21 @@ due-front : (st : Statement) (p : Parameter) (ts : List Token) → IsValueDue st
 due-front st p ts at =
     let value = default_value p in
     shorter ts (key (codes "DEFAULT") ∷ []) (codes "DEFAULT" ∷ []) (record { word = refl; token = refl }, tt)
-      (whole-front (set st value.0) (ts ++ key (codes "DEFAULT") ∷ [])
-        (set-means st p ts (key (codes "DEFAULT") ∷ []) value.0 at (one p value.0 (key (codes "DEFAULT")) value.1)))
+    (whole-front (set st value.0) (ts ++ key (codes "DEFAULT") ∷ [])
+    (set-means st p ts (key (codes "DEFAULT") ∷ []) value.0 at (one p value.0 (key (codes "DEFAULT")) value.1)))
 
 -- an ALTER without a parameter
 alter_pool-front : (n : Name) → SaidFront (path (NameDue verb.Alter kind.Pool) ++ name n ∷ [])
 alter_pool-front n =
     shorter (path (NameDue verb.Alter kind.Pool) ++ name n ∷ []) (key (codes "MEMORYSIZE") ∷ []) (codes "MEMORYSIZE" ∷ []) (record { word = refl; token = refl }, tt)
-      (due-front _ parameter.MemorySize _
-        (due false _ _ (key (codes "MEMORYSIZE")) parameter.MemorySize (alter_pool n) refl refl))
+    (due-front _ parameter.MemorySize _
+    (due false _ _ (key (codes "MEMORYSIZE")) parameter.MemorySize (alter_pool n) refl refl))
 
 alter_user-front : (n : Name) → SaidFront (path (NameDue verb.Alter kind.User) ++ name n ∷ [])
 alter_user-front n =
     shorter (path (NameDue verb.Alter kind.User) ++ name n ∷ []) (key (codes "MEMORYCAP") ∷ []) (codes "MEMORYCAP" ∷ []) (record { word = refl; token = refl }, tt)
-      (due-front _ parameter.MemoryCap _
-        (due false _ _ (key (codes "MEMORYCAP")) parameter.MemoryCap (alter_user n) refl refl))
+    (due-front _ parameter.MemoryCap _
+    (due false _ _ (key (codes "MEMORYCAP")) parameter.MemoryCap (alter_user n) refl refl))
 
 true_false : ◌≡◌ {A = Bool} true false → ⊥
 true_false h = cc
@@ -184,7 +184,7 @@ body-front false st ts body = begun-front false st ts refl body
 role_pool-front : (n : Name) → SaidFront (path (RolePool n))
 role_pool-front n =
     shorter (path (RolePool n)) (key (codes "NONE") ∷ []) (codes "NONE" ∷ []) (record { word = refl; token = refl }, tt)
-      (whole-front _ _ (alter_role n None (key (codes "NONE")) refl))
+    (whole-front _ _ (alter_role n None (key (codes "NONE")) refl))
 
 role_resource-front : (n : Name) → SaidFront (path (RoleResource n))
 role_resource-front n = shorter (path (RoleResource n)) (key (codes "POOL") ∷ []) (codes "POOL" ∷ []) (record { word = refl; token = refl }, tt) (role_pool-front n)
@@ -231,14 +231,14 @@ role_of-front : (g : Giving) (r : Name) → SaidFront (path (RoleOf g r))
 role_of-front g r = shorter (path (RoleOf g r)) (key (to_key g) ∷ []) (to_key g ∷ []) (to_key-says g, tt) (role_to-front g r)
 
 keyed-front : (st : Statement) (p : Parameter) (k : List ℕ) (ts : List Token) → Says k (key k) → more_keys p ≡ key k ∷ [] → IsKeyed st p ts
-  → SaidFront ts
+    → SaidFront ts
 keyed-front st p k ts say more at = shorter ts (key k ∷ []) (k ∷ []) (say, tt) (due-front st p (ts ++ key k ∷ []) (more-means st p k ts more at))
 
 minus-front : (st : Statement) (ts : List Token) → IsMinusRead st ts → SaidFront ts
 minus-front _ _ (minus_read st ts at) =
     shorter (ts ++ Sign symbol.Minus ∷ []) (Number 0 ∷ []) (decimal 0 ∷ []) (number_says 0 (lit< tt), tt)
-      (subst (λ l. SaidFront l) (sym (append_assoc ts (Sign symbol.Minus ∷ []) (Number 0 ∷ [])))
-        (whole-front _ _ (set-means st parameter.Priority ts (Sign symbol.Minus ∷ Number 0 ∷ []) _ at (minus _ (Number 0) refl))))
+    (subst (λ l. SaidFront l) (sym (append_assoc ts (Sign symbol.Minus ∷ []) (Number 0 ∷ [])))
+    (whole-front _ _ (set-means st parameter.Priority ts (Sign symbol.Minus ∷ Number 0 ∷ []) _ at (minus _ (Number 0) refl))))
 
 ended-front : (st : Statement) (ts : List Token) → IsEnded st ts → SaidFront ts
 ended-front _ _ (is_ended st ts body) = spelled-front (ts ++ Sign symbol.Semicolon ∷ []) st (ended st ts body)
@@ -275,7 +275,7 @@ read-front ts p h = let front = means-front p ts (sound ts p h) in (front.rest, 
 
 -- a front is read
 front-turn : (r : Stepped) (rest : List Token) (last : Progress) → onward r (λ q. run q rest) ≡ Ok last
-  → (q : Progress) × (r ≡ Ok q)
+    → (q : Progress) × (r ≡ Ok q)
 front-turn (Ok q) rest last h = (q, refl)
 front-turn (Err why) rest last h = absurd (not_err why last h)
 
@@ -290,7 +290,7 @@ said-front ts front = let read = front-read ts front in means-front read.0 ts (s
 
 -- what stops a step is no front
 pub stopped-no_front : (ts : List Token) (t : Token) (p : Progress) (why : Stop) → run Start ts ≡ Ok p → step p t ≡ Err why
-  → IsFront (ts ++ t ∷ []) → ⊥
+    → IsFront (ts ++ t ∷ []) → ⊥
 stopped-no_front ts t p why h stops front =
     let read = front-read (ts ++ t ∷ []) front in
     let stopped : run Start (ts ++ t ∷ []) ≡ Err why = run-after ts (t ∷ []) p h ∙ ap (λ r. onward r (λ q. run q [])) stops in

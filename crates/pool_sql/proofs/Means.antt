@@ -67,7 +67,7 @@ path _ = []
 -- a body and the first word of a parameter that it does not name yet
 pub data IsKeyed : Statement → Parameter → List Token → Type 0 where
   keyed_by : (b : Bool) (st : Statement) (ts : List Token) (t : Token) (p : Parameter)
-    → IsBody b st ts → parameter_of st t ≡ Some p → is_named p st ≡ false → IsKeyed st p (ts ++ t ∷ [])
+      → IsBody b st ts → parameter_of st t ≡ Some p → is_named p st ≡ false → IsKeyed st p (ts ++ t ∷ [])
 
 pub data IsMinusRead : Statement → List Token → Type 0 where
   minus_read : (st : Statement) (ts : List Token) → IsValueDue st parameter.Priority ts → IsMinusRead st (ts ++ Sign symbol.Minus ∷ [])
@@ -97,35 +97,35 @@ Leads front [] = Unit {0}
 Leads front (e ∷ es) = Means e.1 (front ++ key e.0 ∷ []) × Leads front es
 
 key-turn : (front : List Token) (k : List ℕ) (r : Progress) (es : List Edge) (t : Token) (q : Progress) (b : Bool)
-  → is_key t k ≡ b → (if b then Ok r else on_key es t) ≡ Ok q → Means r (front ++ key k ∷ [])
-  → (on_key es t ≡ Ok q → Means q (front ++ t ∷ [])) → Means q (front ++ t ∷ [])
+    → is_key t k ≡ b → (if b then Ok r else on_key es t) ≡ Ok q → Means r (front ++ key k ∷ [])
+    → (on_key es t ≡ Ok q → Means q (front ++ t ∷ [])) → Means q (front ++ t ∷ [])
 key-turn front k r es t q true is h leads rest =
     subst (λ x. Means q (front ++ x ∷ [])) (sym (is_key-eq t k is))
-      (subst (λ s. Means s (front ++ key k ∷ [])) (ok_is r q h) leads)
+    (subst (λ s. Means s (front ++ key k ∷ [])) (ok_is r q h) leads)
 key-turn front k r es t q false is h leads rest = rest h
 
 on_key-means : (front : List Token) (es : List Edge) (t : Token) (q : Progress) → on_key es t ≡ Ok q → Leads front es
-  → Means q (front ++ t ∷ [])
+    → Means q (front ++ t ∷ [])
 on_key-means front [] t q h leads = absurd (not_err stop.Syntax q h)
 on_key-means front (e ∷ es) t q h leads =
     key-turn front e.0 e.1 es t q (is_key t e.0) refl h leads.0 (λ rest. on_key-means front es t q rest leads.1)
 
 name-turn : (front : List Token) (goes : Name → Progress) (t : Token) (q : Progress) (o : Option Name)
-  → name_of t ≡ o → on_name goes o ≡ Ok q → ((n : Name) → Means (goes n) (front ++ name n ∷ [])) → Means q (front ++ t ∷ [])
+    → name_of t ≡ o → on_name goes o ≡ Ok q → ((n : Name) → Means (goes n) (front ++ name n ∷ [])) → Means q (front ++ t ∷ [])
 name-turn front goes t q None is h leads = absurd (not_err stop.Syntax q h)
 name-turn front goes t q (Some n) is h leads =
     subst (λ x. Means q (front ++ x ∷ [])) (sym (name_of-eq t n is))
-      (subst (λ s. Means s (front ++ name n ∷ [])) (ok_is (goes n) q h) (leads n))
+    (subst (λ s. Means s (front ++ name n ∷ [])) (ok_is (goes n) q h) (leads n))
 
 on_name-means : (front : List Token) (goes : Name → Progress) (t : Token) (q : Progress) → on_name goes (name_of t) ≡ Ok q
-  → ((n : Name) → Means (goes n) (front ++ name n ∷ [])) → Means q (front ++ t ∷ [])
+    → ((n : Name) → Means (goes n) (front ++ name n ∷ [])) → Means q (front ++ t ∷ [])
 on_name-means front goes t q h leads = name-turn front goes t q (name_of t) refl h leads
 
 given-turn : (g : Giving) (t : Token) (q : Progress) (b : Bool) → is_key t (codes "USAGE") ≡ b
-  → (if b then Ok (Usage g) else on_name (λ r. RoleOf g r) (name_of t)) ≡ Ok q → Means q (path (Given g) ++ t ∷ [])
+    → (if b then Ok (Usage g) else on_name (λ r. RoleOf g r) (name_of t)) ≡ Ok q → Means q (path (Given g) ++ t ∷ [])
 given-turn g t q true is h =
     subst (λ x. Means q (path (Given g) ++ x ∷ [])) (sym (is_key-eq t (codes "USAGE") is))
-      (subst (λ s. Means s (path (Usage g))) (ok_is (Usage g) q h) refl)
+    (subst (λ s. Means s (path (Usage g))) (ok_is (Usage g) q h) refl)
 given-turn g t q false is h = on_name-means (path (Given g)) (λ r. RoleOf g r) t q h (λ r. refl)
 
 begun-means : (v : Verb) (k : Kind) (n : Name) → Means (begun v k n) (path (NameDue v k) ++ name n ∷ [])
@@ -148,13 +148,13 @@ role-means giving.Grant r u = grant_role r u
 role-means giving.Revoke r u = revoke_role r u
 
 role_pool-turn : (n : Name) (t : Token) (q : Progress) (r : Result (Option Name) Stop) → optional_name t ≡ r
-  → on_role_pool n r ≡ Ok q → Means q (path (RolePool n) ++ t ∷ [])
+    → on_role_pool n r ≡ Ok q → Means q (path (RolePool n) ++ t ∷ [])
 role_pool-turn n t q (Ok pool) is h =
     subst (λ s. Means s (path (RolePool n) ++ t ∷ [])) (ok_is (Part true (statement.AlterRole n pool)) q h) (alter_role n pool t is)
 role_pool-turn n t q (Err why) is h = absurd (not_err why q h)
 
 keyed-means : (b : Bool) (st : Statement) (ts : List Token) (t : Token) (p : Parameter) → IsBody b st ts
-  → parameter_of st t ≡ Some p → is_named p st ≡ false → Means (keyed st p) (ts ++ t ∷ [])
+    → parameter_of st t ≡ Some p → is_named p st ≡ false → Means (keyed st p) (ts ++ t ∷ [])
 keyed-means b st ts t parameter.MemorySize body is fresh = due b st ts t parameter.MemorySize body is fresh
 keyed-means b st ts t parameter.MaxMemorySize body is fresh = due b st ts t parameter.MaxMemorySize body is fresh
 keyed-means b st ts t parameter.MaxQueryMemorySize body is fresh = due b st ts t parameter.MaxQueryMemorySize body is fresh
@@ -186,39 +186,39 @@ semicolon_is symbol.Semicolon h = refl
 semicolon_is symbol.Minus h = absurd cc
 
 sign-turn : (b : Bool) (st : Statement) (ts : List Token) (s : Symbol) (q : Progress) (ends : Bool) → is_semicolon s ≡ ends
-  → IsBody b st ts → (if b && ends then Ok (Ended st) else Err stop.Syntax) ≡ Ok q → Means q (ts ++ Sign s ∷ [])
+    → IsBody b st ts → (if b && ends then Ok (Ended st) else Err stop.Syntax) ≡ Ok q → Means q (ts ++ Sign s ∷ [])
 sign-turn true st ts s q true is body h =
     subst (λ x. Means q (ts ++ Sign x ∷ [])) (sym (semicolon_is s is))
-      (subst (λ r. Means r (ts ++ Sign symbol.Semicolon ∷ [])) (ok_is (Ended st) q h) (is_ended st ts body))
+    (subst (λ r. Means r (ts ++ Sign symbol.Semicolon ∷ [])) (ok_is (Ended st) q h) (is_ended st ts body))
 sign-turn true st ts s q false is body h = absurd (not_err stop.Syntax q h)
 sign-turn false st ts s q ends is body h = absurd (not_err stop.Syntax q h)
 
 other-means : (b : Bool) (st : Statement) (ts : List Token) (t : Token) (q : Progress) → IsBody b st ts
-  → on_other b st t ≡ Ok q → Means q (ts ++ t ∷ [])
+    → on_other b st t ≡ Ok q → Means q (ts ++ t ∷ [])
 other-means b st ts (Bare word) q body h = absurd (not_err (stranger (takes_any st) (Bare word)) q h)
 other-means b st ts (Number n) q body h = absurd (not_err stop.Syntax q h)
 other-means b st ts (Quoted text) q body h = absurd (not_err stop.Syntax q h)
 other-means b st ts (Sign s) q body h = sign-turn b st ts s q (is_semicolon s) refl body h
 
 repeated-turn : (b : Bool) (st : Statement) (ts : List Token) (t : Token) (p : Parameter) (q : Progress) (twice : Bool)
-  → is_named p st ≡ twice → IsBody b st ts → parameter_of st t ≡ Some p
-  → (if twice then Err (stop.Repeated p) else Ok (keyed st p)) ≡ Ok q → Means q (ts ++ t ∷ [])
+    → is_named p st ≡ twice → IsBody b st ts → parameter_of st t ≡ Some p
+    → (if twice then Err (stop.Repeated p) else Ok (keyed st p)) ≡ Ok q → Means q (ts ++ t ∷ [])
 repeated-turn b st ts t p q true twice body is h = absurd (not_err (stop.Repeated p) q h)
 repeated-turn b st ts t p q false twice body is h =
     subst (λ r. Means r (ts ++ t ∷ [])) (ok_is (keyed st p) q h) (keyed-means b st ts t p body is twice)
 
 parameter-turn : (b : Bool) (st : Statement) (ts : List Token) (t : Token) (q : Progress) (o : Option Parameter)
-  → parameter_of st t ≡ o → IsBody b st ts → on_parameter b st t o ≡ Ok q → Means q (ts ++ t ∷ [])
+    → parameter_of st t ≡ o → IsBody b st ts → on_parameter b st t o ≡ Ok q → Means q (ts ++ t ∷ [])
 parameter-turn b st ts t q None is body h = other-means b st ts t q body h
 parameter-turn b st ts t q (Some p) is body h = repeated-turn b st ts t p q (is_named p st) refl body is h
 
 -- a second key word
 pub more-means : (st : Statement) (p : Parameter) (k : List ℕ) (ts : List Token) → more_keys p ≡ key k ∷ [] → IsKeyed st p ts
-  → IsValueDue st p (ts ++ key k ∷ [])
+    → IsValueDue st p (ts ++ key k ∷ [])
 more-means _ _ k _ more (keyed_by b st ts t p body is fresh) =
     subst (λ l. IsValueDue st p l)
-      (ap (λ m. ts ++ t ∷ m) more ∙ sym (append_assoc ts (t ∷ []) (key k ∷ [])))
-      (due b st ts t p body is fresh)
+    (ap (λ m. ts ++ t ∷ m) more ∙ sym (append_assoc ts (t ∷ []) (key k ∷ [])))
+    (due b st ts t p body is fresh)
 
 pub is_minus-eq : (p : Parameter) (t : Token) → is_minus p t ≡ true → (p ≡ parameter.Priority) × (t ≡ Sign symbol.Minus)
 is_minus-eq parameter.Priority (Sign symbol.Minus) h = (refl, refl)
@@ -252,30 +252,30 @@ is_minus-eq parameter.ResourcePool t h = absurd cc
 is_minus-eq parameter.MemoryCap t h = absurd cc
 
 minus-turn : (st : Statement) (p : Parameter) (ts : List Token) (t : Token) (q : Progress) (why : Stop) (b : Bool)
-  → is_minus p t ≡ b → IsValueDue st p ts → (if b then Ok (MinusRead st) else Err why) ≡ Ok q → Means q (ts ++ t ∷ [])
+    → is_minus p t ≡ b → IsValueDue st p ts → (if b then Ok (MinusRead st) else Err why) ≡ Ok q → Means q (ts ++ t ∷ [])
 minus-turn st p ts t q why true is at h =
     let both = is_minus-eq p t is in
     subst (λ x. Means q (ts ++ x ∷ [])) (sym both.1)
-      (subst (λ r. Means r (ts ++ Sign symbol.Minus ∷ [])) (ok_is (MinusRead st) q h)
-        (minus_read st ts (subst (λ x. IsValueDue st x ts) both.0 at)))
+    (subst (λ r. Means r (ts ++ Sign symbol.Minus ∷ [])) (ok_is (MinusRead st) q h)
+    (minus_read st ts (subst (λ x. IsValueDue st x ts) both.0 at)))
 minus-turn st p ts t q why false is at h = absurd (not_err why q h)
 
 pub set-means : (st : Statement) (p : Parameter) (ts vs : List Token) (x : Setting) → IsValueDue st p ts → IsValue p x vs
-  → IsBody true (set st x) (ts ++ vs)
+    → IsBody true (set st x) (ts ++ vs)
 set-means _ _ _ vs x (due b st ts t p body is fresh) value = named b st ts t p x vs body is fresh value
 
 value-turn : (st : Statement) (p : Parameter) (ts : List Token) (t : Token) (q : Progress) (r : Result Setting Stop)
-  → value_of p t ≡ r → IsValueDue st p ts → on_value st p t r ≡ Ok q → Means q (ts ++ t ∷ [])
+    → value_of p t ≡ r → IsValueDue st p ts → on_value st p t r ≡ Ok q → Means q (ts ++ t ∷ [])
 value-turn st p ts t q (Ok x) is at h =
     subst (λ s. Means s (ts ++ t ∷ [])) (ok_is (Part true (set st x)) q h) (set-means st p ts (t ∷ []) x at (one p x t is))
 value-turn st p ts t q (Err why) is at h = minus-turn st p ts t q why (is_minus p t) refl at h
 
 negative-turn : (st : Statement) (ts : List Token) (t : Token) (q : Progress) (r : Result ℤ Stop)
-  → negative_of t ≡ r → IsMinusRead st ts → on_negative st r ≡ Ok q → Means q (ts ++ t ∷ [])
+    → negative_of t ≡ r → IsMinusRead st ts → on_negative st r ≡ Ok q → Means q (ts ++ t ∷ [])
 negative-turn _ _ t q (Ok n) is (minus_read st ts at) h =
     subst (λ s. Means s ((ts ++ Sign symbol.Minus ∷ []) ++ t ∷ [])) (ok_is (Part true (set st (setting.Priority n))) q h)
-      (subst (λ l. IsBody true (set st (setting.Priority n)) l) (sym (append_assoc ts (Sign symbol.Minus ∷ []) (t ∷ [])))
-        (set-means st parameter.Priority ts (Sign symbol.Minus ∷ t ∷ []) (setting.Priority n) at (minus n t is)))
+    (subst (λ l. IsBody true (set st (setting.Priority n)) l) (sym (append_assoc ts (Sign symbol.Minus ∷ []) (t ∷ [])))
+    (set-means st parameter.Priority ts (Sign symbol.Minus ∷ t ∷ []) (setting.Priority n) at (minus n t is)))
 negative-turn st ts t q (Err why) is read h = absurd (not_err why q h)
 
 -- a step keeps what the words are
@@ -302,12 +302,12 @@ step-means (UsageOf g p) ts t q m h =
     subst (λ l. Means q (l ++ t ∷ [])) (sym m) (on_key-means (path (UsageOf g p)) (edges (UsageOf g p)) t q h (refl, tt))
 step-means (UsageTo g p) ts t q m h =
     subst (λ l. Means q (l ++ t ∷ [])) (sym m)
-      (on_name-means (path (UsageTo g p)) (λ n. Part true (usage_given g p n)) t q h (usage-means g p))
+    (on_name-means (path (UsageTo g p)) (λ n. Part true (usage_given g p n)) t q h (usage-means g p))
 step-means (RoleOf g r) ts t q m h =
     subst (λ l. Means q (l ++ t ∷ [])) (sym m) (on_key-means (path (RoleOf g r)) (edges (RoleOf g r)) t q h (refl, tt))
 step-means (RoleTo g r) ts t q m h =
     subst (λ l. Means q (l ++ t ∷ [])) (sym m)
-      (on_name-means (path (RoleTo g r)) (λ u. Part true (role_given g r u)) t q h (role-means g r))
+    (on_name-means (path (RoleTo g r)) (λ u. Part true (role_given g r u)) t q h (role-means g r))
 step-means (RoleNamed n) ts t q m h =
     subst (λ l. Means q (l ++ t ∷ [])) (sym m) (on_key-means (path (RoleNamed n)) (edges (RoleNamed n)) t q h (refl, tt))
 step-means (RoleResource n) ts t q m h =

@@ -56,12 +56,12 @@ IsRightValue (setting.MemoryCap x) = IsOptionalSize x
 within-ok : (least top n m : ℕ) → within least top n ≡ Ok m → (n ≡ m) × (IsBetween least top m)
 within-ok least top n m h = turn (nat_le least n && nat_le n top) refl h
   where
-  turn : (b : Bool) → (nat_le least n && nat_le n top) ≡ b → ◌≡◌ {A = Result ℕ Fault} (if b then Ok n else Err Outside) (Ok m) → (n ≡ m) × (IsBetween least top m)
-  turn true is e =
-      let parts = and_parts (nat_le least n) (nat_le n top) is in
-      let same : n ≡ m = ok_is n m e in
-      (same, (subst (λ x. least ≤ x) same (leb-true least n parts.0), subst (λ x. x ≤ top) same (leb-true n top parts.1)))
-  turn false is e = absurd (err_ok Outside m e)
+    turn : (b : Bool) → (nat_le least n && nat_le n top) ≡ b → ◌≡◌ {A = Result ℕ Fault} (if b then Ok n else Err Outside) (Ok m) → (n ≡ m) × (IsBetween least top m)
+    turn true is e =
+        let parts = and_parts (nat_le least n) (nat_le n top) is in
+        let same : n ≡ m = ok_is n m e in
+        (same, (subst (λ x. least ≤ x) same (leb-true least n parts.0), subst (λ x. x ≤ top) same (leb-true n top parts.1)))
+    turn false is e = absurd (err_ok Outside m e)
 
 number_of-ok : (least top : ℕ) (t : Token) (m : ℕ) → number_of least top t ≡ Ok m → IsBetween least top m
 number_of-ok least top (Number n) m h = (within-ok least top n m h).1
@@ -77,8 +77,8 @@ none_some a h = cc
 
 -- each unit of sizes is so many KiB
 kibi_units : (k m g t : Bool) (unit : ℕ)
-  → (if k then Some 1024 else (if m then Some 1048576 else (if g then Some 1073741824 else (if t then Some 1099511627776 else None)))) ≡ Some unit
-  → (kibi : ℕ) × (unit ≡ kibi * 1024)
+    → (if k then Some 1024 else (if m then Some 1048576 else (if g then Some 1073741824 else (if t then Some 1099511627776 else None)))) ≡ Some unit
+    → (kibi : ℕ) × (unit ≡ kibi * 1024)
 kibi_units true m g t unit h = (1, sym (some_is 1024 unit h))
 kibi_units false true g t unit h = (1024, sym (some_is 1048576 unit h))
 kibi_units false false true t unit h = (1048576, sym (some_is 1073741824 unit h))
@@ -93,7 +93,7 @@ bytes-size : (n unit kibi : ℕ) (r : Result ℕ Fault) (s : Size) → unit ≡ 
 bytes-size n unit kibi (Ok m) s whole is h =
     let found = within-ok 0 MEMORY_MOST (n * unit) m is in
     subst IsSize (ok_is (Bytes m) s h)
-      (n * kibi, sym found.0 ∙ ap (λ u. n * u) whole ∙ sym (mul_assoc n kibi 1024), found.1.1)
+    (n * kibi, sym found.0 ∙ ap (λ u. n * u) whole ∙ sym (mul_assoc n kibi 1024), found.1.1)
 bytes-size n unit kibi (Err fault) s whole is h = absurd (err_ok fault s h)
 
 bytes_in-size : (n : ℕ) (o : Option ℕ) (s : Size) → ((unit : ℕ) → o ≡ Some unit → (kibi : ℕ) × (unit ≡ kibi * 1024)) → bytes_in n o ≡ Ok s → IsSize s
@@ -106,16 +106,16 @@ size_in-size n [] s h = absurd (err_ok Form s h)
 size_in-size n (c ∷ d ∷ more) s h = absurd (err_ok Form s h)
 size_in-size n (c ∷ []) s h = turn (c == 37) h
   where
-  turn : (b : Bool) → (if b then percent_in n else bytes_in n (unit_bytes c)) ≡ Ok s → IsSize s
-  turn true h = percent-size n (within 0 100 n) s refl h
-  turn false h = bytes_in-size n (unit_bytes c) s (λ unit e. let low = to_ascii_lowercase c in kibi_units (low == 107) (low == 109) (low == 103) (low == 116) unit e) h
+    turn : (b : Bool) → (if b then percent_in n else bytes_in n (unit_bytes c)) ≡ Ok s → IsSize s
+    turn true h = percent-size n (within 0 100 n) s refl h
+    turn false h = bytes_in-size n (unit_bytes c) s (λ unit e. let low = to_ascii_lowercase c in kibi_units (low == 107) (low == 109) (low == 103) (low == 116) unit e) h
 
 size_of-size : (t : Token) (s : Size) → size_of t ≡ Ok s → IsSize s
 size_of-size (Quoted text) s h = turn (digit_count text == 0) h
   where
-  turn : (b : Bool) → (if b then Err Form else size_in (front_number text) (unit_of text)) ≡ Ok s → IsSize s
-  turn true h = absurd (err_ok Form s h)
-  turn false h = size_in-size (front_number text) (unit_of text) s h
+    turn : (b : Bool) → (if b then Err Form else size_in (front_number text) (unit_of text)) ≡ Ok s → IsSize s
+    turn true h = absurd (err_ok Form s h)
+    turn false h = size_in-size (front_number text) (unit_of text) s h
 size_of-size (Bare word) s h = absurd (err_ok Form s h)
 size_of-size (Number n) s h = absurd (err_ok Form s h)
 size_of-size (Sign sign) s h = absurd (err_ok Form s h)
@@ -128,16 +128,16 @@ span_in-between : (least n : ℕ) (text : List ℕ) (m : ℕ) → span_in least 
 span_in-between least n [] m h = absurd (err_ok Form m h)
 span_in-between least n (c ∷ unit) m h = turn (c == 32) h
   where
-  turn : (b : Bool) → (if b then ms_in least n (unit_ms unit) else Err Form) ≡ Ok m → IsBetween least SPAN_MOST m
-  turn true h = ms_in-between least n (unit_ms unit) m h
-  turn false h = absurd (err_ok Form m h)
+    turn : (b : Bool) → (if b then ms_in least n (unit_ms unit) else Err Form) ≡ Ok m → IsBetween least SPAN_MOST m
+    turn true h = ms_in-between least n (unit_ms unit) m h
+    turn false h = absurd (err_ok Form m h)
 
 span_of-between : (least : ℕ) (t : Token) (m : ℕ) → span_of least t ≡ Ok m → IsBetween least SPAN_MOST m
 span_of-between least (Quoted text) m h = turn (digit_count text == 0) h
   where
-  turn : (b : Bool) → (if b then Err Form else span_in least (front_number text) (unit_of text)) ≡ Ok m → IsBetween least SPAN_MOST m
-  turn true h = absurd (err_ok Form m h)
-  turn false h = span_in-between least (front_number text) (unit_of text) m h
+    turn : (b : Bool) → (if b then Err Form else span_in least (front_number text) (unit_of text)) ≡ Ok m → IsBetween least SPAN_MOST m
+    turn true h = absurd (err_ok Form m h)
+    turn false h = span_in-between least (front_number text) (unit_of text) m h
 span_of-between least (Bare word) m h = absurd (err_ok Form m h)
 span_of-between least (Number n) m h = absurd (err_ok Form m h)
 span_of-between least (Sign s) m h = absurd (err_ok Form m h)
@@ -153,18 +153,18 @@ taken-all P p (Ok y) x all h = subst P (ok_is y x h) (all y refl)
 taken-all P p (Err fault) x all h = absurd (err_ok _ x h)
 
 optional-all : {T : Type 0} (P : T → Type 0) (p : Parameter) (b : Bool) (r : Result T Fault) (o : Option T)
-  → ((y : T) → r ≡ Ok y → P y) → optional p b r ≡ Ok o → IfSome o P
+    → ((y : T) → r ≡ Ok y → P y) → optional p b r ≡ Ok o → IfSome o P
 optional-all P p true r o all h = subst (λ x. IfSome x P) (ok_is None o h) tt
 optional-all P p false (Ok y) o all h = subst (λ x. IfSome x P) (ok_is (Some y) o h) (all y refl)
 optional-all P p false (Err fault) o all h = absurd (err_ok _ o h)
 
 default-all : {T : Type 0} (P : T → Type 0) (b : Bool) (d : T) (r : Result T Stop) (x : T) → P d → ((y : T) → r ≡ Ok y → P y)
-  → (if b then Ok d else r) ≡ Ok x → P x
+    → (if b then Ok d else r) ≡ Ok x → P x
 default-all P true d r x is all h = subst P (ok_is d x h) is
 default-all P false d r x is all h = all x h
 
 signed-all : (P : ℤ → Type 0) (sign : ℕ → ℤ) (r : Result ℕ Fault) (x : ℤ) → ((n : ℕ) → r ≡ Ok n → P (sign n))
-  → signed parameter.Priority sign r ≡ Ok x → P x
+    → signed parameter.Priority sign r ≡ Ok x → P x
 signed-all P sign (Ok n) x all h = subst P (ok_is (sign n) x h) (all n refl)
 signed-all P sign (Err fault) x all h = absurd (err_ok _ x h)
 
@@ -175,16 +175,16 @@ negative-priority (suc n) h = omega arith
 priority_of-right : (t : Token) (x : ℤ) → priority_of t ≡ Ok x → IsPriority x
 priority_of-right t x h = turn (is_key t (codes "HOLD")) h
   where
-  turn : (b : Bool) → (if b then Err stop.NotSupported else unless_default t defaults.priority (signed parameter.Priority pos (number_of 0 100 t))) ≡ Ok x → IsPriority x
-  turn true h = absurd (err_ok stop.NotSupported x h)
-  turn false h =
-      default-all IsPriority (is_default t) defaults.priority _ x (lit≤ tt)
+    turn : (b : Bool) → (if b then Err stop.NotSupported else unless_default t defaults.priority (signed parameter.Priority pos (number_of 0 100 t))) ≡ Ok x → IsPriority x
+    turn true h = absurd (err_ok stop.NotSupported x h)
+    turn false h =
+        default-all IsPriority (is_default t) defaults.priority _ x (lit≤ tt)
         (λ y e. signed-all IsPriority pos (number_of 0 100 t) y (λ n is. (number_of-ok 0 100 t n is).1) e) h
 
 -- a value of a parameter is a setting of it
 as_setting-ok : {T : Type 0} (p : Parameter) (f : T → Setting) (r : Result T Stop) (x : Setting)
-  → ((y : T) → p ≡ parameter_named (f y)) → ((y : T) → r ≡ Ok y → IsRightValue (f y))
-  → as_setting f r ≡ Ok x → (p ≡ parameter_named x) × IsRightValue x
+    → ((y : T) → p ≡ parameter_named (f y)) → ((y : T) → r ≡ Ok y → IsRightValue (f y))
+    → as_setting f r ≡ Ok x → (p ≡ parameter_named x) × IsRightValue x
 as_setting-ok p f (Ok y) x names right h =
     subst (λ s. (p ≡ parameter_named s) × IsRightValue s) (ok_is (f y) x h) (names y, right y refl)
 as_setting-ok p f (Err why) x names right h = absurd (err_ok why x h)
@@ -307,25 +307,27 @@ found-all : (f good : Parameter → Bool) (ps : List Parameter) (p : Parameter) 
 found-all f good [] p all h = absurd cc
 found-all f good (q ∷ qs) p all h = turn (f q) h (found-all f good qs p (and_parts (good q) (list_all good qs) all).1)
   where
-  turn : (b : Bool) → (if b then Some q else find f qs) ≡ Some p → (find f qs ≡ Some p → good p ≡ true) → good p ≡ true
-  turn true h rest = let same : q ≡ p = same_some q p h in ap good (sym same) ∙ (and_parts (good q) (list_all good qs) all).0
-    where
-    same_some : (a b : Parameter) → ◌≡◌ {A = Option Parameter} (Some a) (Some b) → a ≡ b
-    same_some a b h = cc
-  turn false h rest = rest h
+    turn : (b : Bool) → (if b then Some q else find f qs) ≡ Some p → (find f qs ≡ Some p → good p ≡ true) → good p ≡ true
+    turn true h rest = let same : q ≡ p = same_some q p h in ap good (sym same) ∙ (and_parts (good q) (list_all good qs) all).0
+      where
+        same_some : (a b : Parameter) → ◌≡◌ {A = Option Parameter} (Some a) (Some b) → a ≡ b
+        same_some a b h = cc
+    turn false h rest = rest h
 
 found-any : (f good : Parameter → Bool) (ps : List Parameter) (p : Parameter) → good p ≡ true → find f ps ≡ Some p → list_any good ps ≡ true
 found-any f good [] p is h = absurd cc
 found-any f good (q ∷ qs) p is h = turn (f q) h (found-any f good qs p is)
   where
-  or_true : (b : Bool) → (b || true) ≡ true
-  or_true true = refl
-  or_true false = refl
-  same_some : (a b : Parameter) → ◌≡◌ {A = Option Parameter} (Some a) (Some b) → a ≡ b
-  same_some a b h = cc
-  turn : (b : Bool) → (if b then Some q else find f qs) ≡ Some p → (find f qs ≡ Some p → list_any good qs ≡ true) → list_any good (q ∷ qs) ≡ true
-  turn true h rest = ap (λ b. b || list_any good qs) (ap good (same_some q p h) ∙ is)
-  turn false h rest = ap (λ b. good q || b) (rest h) ∙ or_true (good q)
+    or_true : (b : Bool) → (b || true) ≡ true
+    or_true true = refl
+    or_true false = refl
+
+    same_some : (a b : Parameter) → ◌≡◌ {A = Option Parameter} (Some a) (Some b) → a ≡ b
+    same_some a b h = cc
+
+    turn : (b : Bool) → (if b then Some q else find f qs) ≡ Some p → (find f qs ≡ Some p → list_any good qs ≡ true) → list_any good (q ∷ qs) ≡ true
+    turn true h rest = ap (λ b. b || list_any good qs) (ap good (same_some q p h) ∙ is)
+    turn false h rest = ap (λ b. good q || b) (rest h) ∙ or_true (good q)
 
 abbrev is_of_pool : Parameter → Bool
 is_of_pool parameter.MemorySize = true
@@ -395,16 +397,16 @@ set_user-named c (setting.MemoryCap x) h = refl
 set-names : (st : Statement) (x : Setting) (t : Token) (p : Parameter) → parameter_of st t ≡ Some p → p ≡ parameter_named x → names_any (set st x) ≡ true
 set-names (statement.CreatePool n c) x t p is same =
     found-any (λ q. is_key t (parameter_text q)) (λ q. is_named_pool q (set_pool c x)) pool_parameters p
-      (ap (λ q. is_named_pool q (set_pool c x)) same ∙ set_pool-named c x (ap is_of_pool (sym same) ∙ found-all (λ q. is_key t (parameter_text q)) is_of_pool pool_parameters p refl is)) is
+    (ap (λ q. is_named_pool q (set_pool c x)) same ∙ set_pool-named c x (ap is_of_pool (sym same) ∙ found-all (λ q. is_key t (parameter_text q)) is_of_pool pool_parameters p refl is)) is
 set-names (statement.AlterPool n c) x t p is same =
     found-any (λ q. is_key t (parameter_text q)) (λ q. is_named_pool q (set_pool c x)) pool_parameters p
-      (ap (λ q. is_named_pool q (set_pool c x)) same ∙ set_pool-named c x (ap is_of_pool (sym same) ∙ found-all (λ q. is_key t (parameter_text q)) is_of_pool pool_parameters p refl is)) is
+    (ap (λ q. is_named_pool q (set_pool c x)) same ∙ set_pool-named c x (ap is_of_pool (sym same) ∙ found-all (λ q. is_key t (parameter_text q)) is_of_pool pool_parameters p refl is)) is
 set-names (statement.CreateUser n c) x t p is same =
     found-any (λ q. is_key t (parameter_text q)) (λ q. is_named_user q (set_user c x)) user_parameters p
-      (ap (λ q. is_named_user q (set_user c x)) same ∙ set_user-named c x (ap is_of_user (sym same) ∙ found-all (λ q. is_key t (parameter_text q)) is_of_user user_parameters p refl is)) is
+    (ap (λ q. is_named_user q (set_user c x)) same ∙ set_user-named c x (ap is_of_user (sym same) ∙ found-all (λ q. is_key t (parameter_text q)) is_of_user user_parameters p refl is)) is
 set-names (statement.AlterUser n c) x t p is same =
     found-any (λ q. is_key t (parameter_text q)) (λ q. is_named_user q (set_user c x)) user_parameters p
-      (ap (λ q. is_named_user q (set_user c x)) same ∙ set_user-named c x (ap is_of_user (sym same) ∙ found-all (λ q. is_key t (parameter_text q)) is_of_user user_parameters p refl is)) is
+    (ap (λ q. is_named_user q (set_user c x)) same ∙ set_user-named c x (ap is_of_user (sym same) ∙ found-all (λ q. is_key t (parameter_text q)) is_of_user user_parameters p refl is)) is
 set-names (statement.DropPool a) x t p is same = absurd cc
 set-names (statement.DropUser a) x t p is same = absurd cc
 set-names (statement.CreateRole a) x t p is same = absurd cc

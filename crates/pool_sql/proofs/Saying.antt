@@ -37,8 +37,8 @@ use Rattle.rm_words.specs.Cut.{AreWords, joined, spans_from, word_at, words_at}
 use Rattle.rm_words.specs.Token.{Token, Bare, Number, Quoted, Sign, Says, doubled, folded, is_key, token_of}
 use Rattle.rm_words.proofs.Joins.{joined_is_cut, joined_words}
 use Rattle.rm_words.proofs.Printing.{bare_says, number_says, quoted_says}
-use Rattle.pool_sql.specs.declared.printing.Value.{Value}
-use Rattle.pool_sql.specs.declared.printing.Value.TheVariants as value
+use Rattle.pool_sql.specs.declared.shown.Value.{Value}
+use Rattle.pool_sql.specs.declared.shown.Value.TheVariants as value
 use Rattle.pool_sql.specs.declared.setting.Setting.{Setting}
 use Rattle.pool_sql.specs.declared.setting.Setting.TheVariants as setting
 use Rattle.pool_sql.specs.declared.stop.Fault.{Fault}
@@ -119,9 +119,9 @@ bare_name-says [] h = absurd cc
 bare_name-says (c ∷ cs) h =
     let parts = and_parts (begins_name c) (list_all continues_name cs) h in
     let bare_word : is_bare (map class_of (c ∷ cs)) ≡ true =
-      ap (λ k. is_bare (k ∷ map class_of cs)) (begins-letter c parts.0) ∙ all_go_on cs parts.1 in
+    ap (λ k. is_bare (k ∷ map class_of cs)) (begins-letter c parts.0) ∙ all_go_on cs parts.1 in
     let all : list_all continues_name (c ∷ cs) ≡ true =
-      ap (λ b. b && list_all continues_name cs) (begins-continues c parts.0) ∙ parts.1 in
+    ap (λ b. b && list_all continues_name cs) (begins-continues c parts.0) ∙ parts.1 in
     let says = bare_says (c ∷ cs) bare_word in
     record { word = says.word; token = says.token ∙ ap (λ l. Bare l) (folded-name (c ∷ cs) all) }
 
@@ -138,6 +138,5 @@ said-spells st ws ts spells says =
     let text : List ℕ = joined ws in
     let spans = spans_from 0 ws in
     let same : tokens_in text spans ≡ ts =
-      tokens_in-words text spans ∙ ap (map token_of) (joined_words text 0 ws refl) ∙ tokens_said ws ts says in
+    tokens_in-words text spans ∙ ap (map token_of) (joined_words text 0 ws refl) ∙ tokens_said ws ts says in
     (spans, joined_is_cut 0 ws (are_words ws ts says), subst (λ l. Spells l st) (sym same) spells)
-

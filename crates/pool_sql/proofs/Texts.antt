@@ -28,14 +28,14 @@ Read = Result Statement Refusal
 
 -- the words that were read are left behind
 run-turn : (text : List ℕ) (stuck : Option ℕ) (span : Span) (front rest : List Span) (p : Progress) (r : Stepped)
-  → onward r (λ q. run q (tokens_in text front)) ≡ Ok p
-  → ((q : Progress) → run q (tokens_in text front) ≡ Ok p → read_on text stuck q (front ++ rest) ≡ read_on text stuck p rest)
-  → next_word span r (λ q. read_on text stuck q (front ++ rest)) ≡ read_on text stuck p rest
+    → onward r (λ q. run q (tokens_in text front)) ≡ Ok p
+    → ((q : Progress) → run q (tokens_in text front) ≡ Ok p → read_on text stuck q (front ++ rest) ≡ read_on text stuck p rest)
+    → next_word span r (λ q. read_on text stuck q (front ++ rest)) ≡ read_on text stuck p rest
 run-turn text stuck span front rest p (Ok q) h more = more q h
 run-turn text stuck span front rest p (Err why) h more = absurd (not_err why p h)
 
 read-run : (text : List ℕ) (stuck : Option ℕ) (q : Progress) (front rest : List Span) (p : Progress)
-  → run q (tokens_in text front) ≡ Ok p → read_on text stuck q (front ++ rest) ≡ read_on text stuck p rest
+    → run q (tokens_in text front) ≡ Ok p → read_on text stuck q (front ++ rest) ≡ read_on text stuck p rest
 read-run text stuck q [] rest p h = ap (λ s. read_on text stuck s rest) (ok_is q p h)
 read-run text stuck q (span ∷ front) rest p h =
     run-turn text stuck span front rest p (step q (token_in text span)) h (λ s more. read-run text stuck s front rest p more)
@@ -60,27 +60,27 @@ spelled-reads text st is =
       stuck = None;
       cut = is.1;
       reads =
-        ap (λ l. read_on text None Start l) (sym (append-nil is.0))
-        ∙ read-run text None Start is.0 [] gives.last gives.reads
-        ∙ ap (finished text) gives.gives
+          ap (λ l. read_on text None Start l) (sym (append-nil is.0))
+          ∙ read-run text None Start is.0 [] gives.last gives.reads
+          ∙ ap (finished text) gives.gives;
     }
 
 -- the step at the word that is refused
 stop-turn : (text : List ℕ) (front : List Span) (span : Span) (p : Progress) (why : Stop) (r : Stepped)
-  → step p (token_in text span) ≡ r → run Start (tokens_in text front) ≡ Ok p
-  → (IsFront (tokens_in text front ++ token_in text span ∷ []) → ⊥) → IsWhy (tokens_in text front) (token_in text span) why
-  → step p (token_in text span) ≡ Err why
+    → step p (token_in text span) ≡ r → run Start (tokens_in text front) ≡ Ok p
+    → (IsFront (tokens_in text front ++ token_in text span ∷ []) → ⊥) → IsWhy (tokens_in text front) (token_in text span) why
+    → step p (token_in text span) ≡ Err why
 stop-turn text front span p why (Ok q) is h none told =
     absurd (none (read-front (tokens_in text front ++ token_in text span ∷ []) q
-      (run-after (tokens_in text front) (token_in text span ∷ []) p h ∙ ap (λ r. onward r (λ s. run s [])) is)))
+    (run-after (tokens_in text front) (token_in text span ∷ []) p h ∙ ap (λ r. onward r (λ s. run s [])) is)))
 stop-turn text front span p why (Err fault) is h none told =
     let front_tokens = tokens_in text front in
     is ∙ ap (λ w. let r : Stepped = Err w in r)
-      (why_one front_tokens (token_in text span) fault why
-        (stopped-why front_tokens (token_in text span) p fault h (sound front_tokens p h) is) told)
+    (why_one front_tokens (token_in text span) fault why
+    (stopped-why front_tokens (token_in text span) p fault h (sound front_tokens p h) is) told)
 
 finish-turn : (text : List ℕ) (spans : List Span) (p : Progress) (o : Option Statement) → finish p ≡ o → run Start (tokens_in text spans) ≡ Ok p
-  → ((st : Statement) → Spells (tokens_in text spans) st → ⊥) → finish p ≡ None
+    → ((st : Statement) → Spells (tokens_in text spans) st → ⊥) → finish p ≡ None
 finish-turn text spans p (Some st) is h none = absurd (none st (finish-spells p (tokens_in text spans) st (sound (tokens_in text spans) p h) is))
 finish-turn text spans p None is h none = is
 
@@ -92,9 +92,9 @@ refused-reads _ _ (at_word text front rest span stuck why cut is_front none told
       stuck = stuck;
       cut = cut;
       reads =
-        read-run text stuck Start front (span ∷ rest) read.0 read.1
-        ∙ ap (λ r. next_word span r (λ q. read_on text stuck q rest))
-            (stop-turn text front span read.0 why (step read.0 (token_in text span)) refl read.1 none told)
+          read-run text stuck Start front (span ∷ rest) read.0 read.1
+          ∙ ap (λ r. next_word span r (λ q. read_on text stuck q rest))
+          (stop-turn text front span read.0 why (step read.0 (token_in text span)) refl read.1 none told);
     }
 refused-reads _ _ (at_gap text spans place cut is_front) =
     let read = front-read (tokens_in text spans) is_front in
@@ -102,7 +102,7 @@ refused-reads _ _ (at_gap text spans place cut is_front) =
       spans = spans;
       stuck = Some place;
       cut = cut;
-      reads = ap (λ l. read_on text (Some place) Start l) (sym (append-nil spans)) ∙ read-run text (Some place) Start spans [] read.0 read.1
+      reads = ap (λ l. read_on text (Some place) Start l) (sym (append-nil spans)) ∙ read-run text (Some place) Start spans [] read.0 read.1;
     }
 refused-reads _ _ (at_end text spans cut is_front none) =
     let read = front-read (tokens_in text spans) is_front in
@@ -111,9 +111,9 @@ refused-reads _ _ (at_end text spans cut is_front none) =
       stuck = None;
       cut = cut;
       reads =
-        ap (λ l. read_on text None Start l) (sym (append-nil spans))
-        ∙ read-run text None Start spans [] read.0 read.1
-        ∙ ap (finished text) (finish-turn text spans read.0 (finish read.0) refl read.1 none)
+          ap (λ l. read_on text None Start l) (sym (append-nil spans))
+          ∙ read-run text None Start spans [] read.0 read.1
+          ∙ ap (finished text) (finish-turn text spans read.0 (finish read.0) refl read.1 none);
     }
 
 ok_one : (a b : Statement) → (let x : Read = Ok a in let y : Read = Ok b in x ≡ y) → a ≡ b
@@ -140,7 +140,9 @@ well_formed-right st is = let spelled = is.1 in spelled-right (tokens_in is.0 sp
 -- words with which some statement begins are the first words of a text that is one
 pub front-text : (ws : List (List ℕ)) → AreWords ws → IsFront (map token_of ws) → BeginsText ws
 front-text ws are is_front =
-    let front = said-front (map token_of ws) is_front in
-    (front.words, front.statement,
+    let front = said-front (map token_of ws) is_front in (
+      front.words,
+      front.statement,
       said-spells front.statement (ws ++ front.words) (map token_of ws ++ front.rest) front.spells
-        (AllSay-append ws front.words (map token_of ws) front.rest (words_say ws are) front.says))
+          (AllSay-append ws front.words (map token_of ws) front.rest (words_say ws are) front.says),
+    )

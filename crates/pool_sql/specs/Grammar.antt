@@ -34,42 +34,42 @@ more_keys _ = []
 pub data IsValue : Parameter → Setting → List Token → Type 0 where
   one : (p : Parameter) (x : Setting) (t : Token) → value_of p t ≡ Ok x → IsValue p x (t ∷ [])
   minus : (n : ℤ) (t : Token) → negative_of t ≡ Ok n
-    → IsValue parameter.Priority (setting.Priority n) (Sign Minus ∷ t ∷ [])
+      → IsValue parameter.Priority (setting.Priority n) (Sign Minus ∷ t ∷ [])
 
 -- a statement without `;`. `false` stands for an ALTER whose first parameter is still to come
 pub data IsBody : Bool → Statement → List Token → Type 0 where
   create_pool : (n : Name) → IsBody true (statement.CreatePool n no_pool_change)
-    (key (codes "CREATE") ∷ key (codes "RESOURCE") ∷ key (codes "POOL") ∷ name n ∷ [])
+      (key (codes "CREATE") ∷ key (codes "RESOURCE") ∷ key (codes "POOL") ∷ name n ∷ [])
   alter_pool : (n : Name) → IsBody false (statement.AlterPool n no_pool_change)
-    (key (codes "ALTER") ∷ key (codes "RESOURCE") ∷ key (codes "POOL") ∷ name n ∷ [])
+      (key (codes "ALTER") ∷ key (codes "RESOURCE") ∷ key (codes "POOL") ∷ name n ∷ [])
   drop_pool : (n : Name) → IsBody true (statement.DropPool n)
-    (key (codes "DROP") ∷ key (codes "RESOURCE") ∷ key (codes "POOL") ∷ name n ∷ [])
+      (key (codes "DROP") ∷ key (codes "RESOURCE") ∷ key (codes "POOL") ∷ name n ∷ [])
   create_user : (n : Name) → IsBody true (statement.CreateUser n no_user_change)
-    (key (codes "CREATE") ∷ key (codes "USER") ∷ name n ∷ [])
+      (key (codes "CREATE") ∷ key (codes "USER") ∷ name n ∷ [])
   alter_user : (n : Name) → IsBody false (statement.AlterUser n no_user_change)
-    (key (codes "ALTER") ∷ key (codes "USER") ∷ name n ∷ [])
+      (key (codes "ALTER") ∷ key (codes "USER") ∷ name n ∷ [])
   drop_user : (n : Name) → IsBody true (statement.DropUser n)
-    (key (codes "DROP") ∷ key (codes "USER") ∷ name n ∷ [])
+      (key (codes "DROP") ∷ key (codes "USER") ∷ name n ∷ [])
   create_role : (n : Name) → IsBody true (statement.CreateRole n)
-    (key (codes "CREATE") ∷ key (codes "ROLE") ∷ name n ∷ [])
+      (key (codes "CREATE") ∷ key (codes "ROLE") ∷ name n ∷ [])
   alter_role : (n : Name) (pool : Option Name) (t : Token) → optional_name t ≡ Ok pool
-    → IsBody true (statement.AlterRole n pool)
+      → IsBody true (statement.AlterRole n pool)
       (key (codes "ALTER") ∷ key (codes "ROLE") ∷ name n ∷ key (codes "RESOURCE") ∷ key (codes "POOL") ∷ t ∷ [])
   drop_role : (n : Name) → IsBody true (statement.DropRole n)
-    (key (codes "DROP") ∷ key (codes "ROLE") ∷ name n ∷ [])
+      (key (codes "DROP") ∷ key (codes "ROLE") ∷ name n ∷ [])
   grant_usage : (p n : Name) → IsBody true (statement.GrantUsage p n)
-    (key (codes "GRANT") ∷ key (codes "USAGE") ∷ key (codes "ON") ∷ key (codes "RESOURCE") ∷ key (codes "POOL")
-     ∷ name p ∷ key (codes "TO") ∷ name n ∷ [])
+      (key (codes "GRANT") ∷ key (codes "USAGE") ∷ key (codes "ON") ∷ key (codes "RESOURCE") ∷ key (codes "POOL")
+      ∷ name p ∷ key (codes "TO") ∷ name n ∷ [])
   revoke_usage : (p n : Name) → IsBody true (statement.RevokeUsage p n)
-    (key (codes "REVOKE") ∷ key (codes "USAGE") ∷ key (codes "ON") ∷ key (codes "RESOURCE") ∷ key (codes "POOL")
-     ∷ name p ∷ key (codes "FROM") ∷ name n ∷ [])
+      (key (codes "REVOKE") ∷ key (codes "USAGE") ∷ key (codes "ON") ∷ key (codes "RESOURCE") ∷ key (codes "POOL")
+      ∷ name p ∷ key (codes "FROM") ∷ name n ∷ [])
   grant_role : (r u : Name) → IsBody true (statement.GrantRole r u)
-    (key (codes "GRANT") ∷ name r ∷ key (codes "TO") ∷ name u ∷ [])
+      (key (codes "GRANT") ∷ name r ∷ key (codes "TO") ∷ name u ∷ [])
   revoke_role : (r u : Name) → IsBody true (statement.RevokeRole r u)
-    (key (codes "REVOKE") ∷ name r ∷ key (codes "FROM") ∷ name u ∷ [])
+      (key (codes "REVOKE") ∷ name r ∷ key (codes "FROM") ∷ name u ∷ [])
   named : (b : Bool) (st : Statement) (ts : List Token) (t : Token) (p : Parameter) (x : Setting) (vs : List Token)
-    → IsBody b st ts → parameter_of st t ≡ Some p → is_named p st ≡ false → IsValue p x vs
-    → IsBody true (set st x) ((ts ++ t ∷ more_keys p) ++ vs)
+      → IsBody b st ts → parameter_of st t ≡ Some p → is_named p st ≡ false → IsValue p x vs
+      → IsBody true (set st x) ((ts ++ t ∷ more_keys p) ++ vs)
 
 -- the words are the statement
 pub data Spells : List Token → Statement → Type 0 where
@@ -83,23 +83,23 @@ IsFront ts = (rest : List Token) × (st : Statement) × Spells (ts ++ rest) st
 -- a body and a parameter that it does not name yet, whose value comes next
 pub data IsValueDue : Statement → Parameter → List Token → Type 0 where
   due : (b : Bool) (st : Statement) (ts : List Token) (t : Token) (p : Parameter)
-    → IsBody b st ts → parameter_of st t ≡ Some p → is_named p st ≡ false → IsValueDue st p (ts ++ t ∷ more_keys p)
+      → IsBody b st ts → parameter_of st t ≡ Some p → is_named p st ≡ false → IsValueDue st p (ts ++ t ∷ more_keys p)
 
 -- what is wrong with a word behind these, other than that no statement has it there
 pub data Blames : List Token → Token → Stop → Type 0 where
   unknown : (b : Bool) (st : Statement) (ts : List Token) (word : List ℕ)
-    → IsBody b st ts → takes_any st ≡ true → parameter_of st (Bare word) ≡ None → is_affinity (Bare word) ≡ false
-    → Blames ts (Bare word) stop.Unknown
+      → IsBody b st ts → takes_any st ≡ true → parameter_of st (Bare word) ≡ None → is_affinity (Bare word) ≡ false
+      → Blames ts (Bare word) stop.Unknown
   affinity : (b : Bool) (st : Statement) (ts : List Token) (word : List ℕ)
-    → IsBody b st ts → takes_any st ≡ true → parameter_of st (Bare word) ≡ None → is_affinity (Bare word) ≡ true
-    → Blames ts (Bare word) stop.NotSupported
+      → IsBody b st ts → takes_any st ≡ true → parameter_of st (Bare word) ≡ None → is_affinity (Bare word) ≡ true
+      → Blames ts (Bare word) stop.NotSupported
   repeated : (b : Bool) (st : Statement) (ts : List Token) (t : Token) (p : Parameter)
-    → IsBody b st ts → parameter_of st t ≡ Some p → is_named p st ≡ true → Blames ts t (stop.Repeated p)
+      → IsBody b st ts → parameter_of st t ≡ Some p → is_named p st ≡ true → Blames ts t (stop.Repeated p)
   value : (st : Statement) (p : Parameter) (ts : List Token) (t : Token) (why : Stop)
-    → IsValueDue st p ts → value_of p t ≡ Err why → why ≢ stop.Syntax → Blames ts t why
+      → IsValueDue st p ts → value_of p t ≡ Err why → why ≢ stop.Syntax → Blames ts t why
   negative : (st : Statement) (ts : List Token) (t : Token) (why : Stop)
-    → IsValueDue st parameter.Priority ts → negative_of t ≡ Err why → why ≢ stop.Syntax
-    → Blames (ts ++ Sign Minus ∷ []) t why
+      → IsValueDue st parameter.Priority ts → negative_of t ≡ Err why → why ≢ stop.Syntax
+      → Blames (ts ++ Sign Minus ∷ []) t why
 
 -- what is blamed, or else Syntax
 abbrev pub IsWhy : List Token → Token → Stop → Type 0

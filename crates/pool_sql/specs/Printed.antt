@@ -14,8 +14,8 @@ use Rattle.rm_base.specs.declared.statement.Statement.{Statement}
 use Rattle.rm_base.specs.declared.statement.Statement.TheVariants as statement
 use Rattle.rm_base.specs.Name.{name_text}
 use Rattle.rm_base.specs.RefusalText.{parameter_text}
-use Rattle.pool_sql.specs.declared.printing.Value.{Value}
-use Rattle.pool_sql.specs.declared.printing.Value.TheVariants as value
+use Rattle.pool_sql.specs.declared.shown.Value.{Value}
+use Rattle.pool_sql.specs.declared.shown.Value.TheVariants as value
 use Rattle.pool_sql.specs.declared.setting.Setting.{Setting}
 use Rattle.pool_sql.specs.declared.setting.Setting.TheVariants as setting
 

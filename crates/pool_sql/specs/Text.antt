@@ -41,17 +41,17 @@ refusal_at place (stop.Range p) = refusal.Range p
 -- for the place where there is no word, or since it ends too early
 pub data IsRefused : List ℕ → Refusal → Type 0 where
   at_word : (text : List ℕ) (front rest : List Span) (span : Span) (stuck : Option ℕ) (why : Stop)
-    → IsCut 0 text (front ++ span ∷ rest) stuck
-    → IsFront (tokens_in text front)
-    → (IsFront (tokens_in text front ++ token_in text span ∷ []) → ⊥)
-    → IsWhy (tokens_in text front) (token_in text span) why
-    → IsRefused text (refusal_at span.start why)
+      → IsCut 0 text (front ++ span ∷ rest) stuck
+      → IsFront (tokens_in text front)
+      → (IsFront (tokens_in text front ++ token_in text span ∷ []) → ⊥)
+      → IsWhy (tokens_in text front) (token_in text span) why
+      → IsRefused text (refusal_at span.start why)
   at_gap : (text : List ℕ) (spans : List Span) (place : ℕ)
-    → IsCut 0 text spans (Some place)
-    → IsFront (tokens_in text spans)
-    → IsRefused text (refusal.Syntax place)
+      → IsCut 0 text spans (Some place)
+      → IsFront (tokens_in text spans)
+      → IsRefused text (refusal.Syntax place)
   at_end : (text : List ℕ) (spans : List Span)
-    → IsCut 0 text spans None
-    → IsFront (tokens_in text spans)
-    → ((st : Statement) → Spells (tokens_in text spans) st → ⊥)
-    → IsRefused text (refusal.Syntax (length text))
+      → IsCut 0 text spans None
+      → IsFront (tokens_in text spans)
+      → ((st : Statement) → Spells (tokens_in text spans) st → ⊥)
+      → IsRefused text (refusal.Syntax (length text))

@@ -88,12 +88,12 @@ level_of t =
 abbrev pub threshold_of : Token → Result ℕ Stop
 threshold_of t =
     unless_default t defaults.threshold_s
-      (taken parameter.RuntimePriorityThreshold (number_of 0 THRESHOLD_SECONDS_MOST t))
+    (taken parameter.RuntimePriorityThreshold (number_of 0 THRESHOLD_SECONDS_MOST t))
 
 abbrev pub queue_timeout_of : Token → Result (Option ℕ) Stop
 queue_timeout_of t =
     unless_default t defaults.queue_ms
-      (optional parameter.QueueTimeout (is_key t (codes "NONE")) (timeout_of t))
+    (optional parameter.QueueTimeout (is_key t (codes "NONE")) (timeout_of t))
 
 abbrev pub runtime_cap_of : Token → Result (Option ℕ) Stop
 runtime_cap_of t = optional parameter.RuntimeCap (is_none t) (span_of 1 t)

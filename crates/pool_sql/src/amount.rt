@@ -10,19 +10,25 @@ ghost use Rattle.pool_sql.specs.Amount.{bytes_in, digit_count, ms_in, number_of,
 use crate::stop::Fault;
 use rm_base::limits::{MEMORY_MOST, SPAN_MOST};
 use rm_base::statement::Size;
-use rm_words::class::{class_of, Class};
+use rm_words::class::{Class, class_of};
 use rm_words::token::Token;
 
 /// The greatest percentage.
 const PERCENT_MOST: u64 = 100;
 
-const KIBI: u64 = 1 << 10;
+/// How many bytes a K of a size has.
+pub const KIBI: u64 = 1 << 10;
+
 const MEBI: u64 = 1 << 20;
+
 const GIBI: u64 = 1 << 30;
+
 const TEBI: u64 = 1 << 40;
 
 const SECOND: u64 = 1_000;
+
 const MINUTE: u64 = 60 * SECOND;
+
 const HOUR: u64 = 60 * MINUTE;
 
 fn within(least: u64, most: u64, number: u64) -> Result<u64, Fault>

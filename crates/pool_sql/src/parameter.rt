@@ -59,7 +59,10 @@ fn names(parameter: Parameter, token: &Token) -> bool
 fn parameter_among(parameters: &[Parameter], token: &Token) -> Option<Parameter>
     ensures { result ≡ parameter_among parameters.now (seen token.now) }
 {
-    parameters.iter().copied().find(|parameter| names(*parameter, token))
+    parameters
+        .iter()
+        .copied()
+        .find(|parameter| names(*parameter, token))
 }
 
 /// The parameter of the statement that a word names.

@@ -6,7 +6,7 @@ ghost use Rattle.pool_sql.specs.Machine.{begun, finish, is_minus, is_semicolon, 
 
 use crate::names::{name_of, usage_name};
 use crate::parameter::{is_affinity, parameter_of, takes_any};
-use crate::setting::{is_named, no_pool_change, no_user_change, set, Setting};
+use crate::setting::{Setting, is_named, no_pool_change, no_user_change, set};
 use crate::stop::Stop;
 use crate::value::{negative_of, optional_name, value_of};
 use rm_base::name::Name;
@@ -298,7 +298,10 @@ fn on_parameter(whole: bool, statement: Statement, token: &Token) -> Result<Prog
 fn is_minus(parameter: Parameter, token: &Token) -> bool
     ensures { result ≡ is_minus parameter (seen token.now) }
 {
-    matches!((parameter, token), (Parameter::Priority, Token::Sign(Symbol::Minus)))
+    matches!(
+        (parameter, token),
+        (Parameter::Priority, Token::Sign(Symbol::Minus))
+    )
 }
 
 fn on_value(statement: Statement, parameter: Parameter, token: &Token) -> Result<Progress, Stop>
@@ -352,10 +355,18 @@ impl Progress {
             Progress::RolePool(name) => on_role_pool(name, token),
             Progress::Part(whole, statement) => on_parameter(whole, statement, token),
             Progress::CascadeTo(statement) => {
-                on_key(token, b"TO", Progress::ValueDue(statement, Parameter::Cascade))
+                on_key(
+                    token,
+                    b"TO",
+                    Progress::ValueDue(statement, Parameter::Cascade),
+                )
             }
             Progress::UserPool(statement) => {
-                on_key(token, b"POOL", Progress::ValueDue(statement, Parameter::ResourcePool))
+                on_key(
+                    token,
+                    b"POOL",
+                    Progress::ValueDue(statement, Parameter::ResourcePool),
+                )
             }
             Progress::ValueDue(statement, parameter) => on_value(statement, parameter, token),
             Progress::MinusRead(statement) => on_negative(statement, token),

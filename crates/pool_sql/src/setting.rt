@@ -81,9 +81,18 @@ fn set_user(change: UserChange, setting: Setting) -> UserChange
     ensures { result ≡ set_user change setting }
 {
     match setting {
-        Setting::ResourcePool(name) => UserChange { pool: Some(name), ..change },
-        Setting::MemoryCap(size) => UserChange { memory_cap: Some(size), ..change },
-        Setting::RuntimeCap(number) => UserChange { cap_ms: Some(number), ..change },
+        Setting::ResourcePool(name) => UserChange {
+            pool: Some(name),
+            ..change
+        },
+        Setting::MemoryCap(size) => UserChange {
+            memory_cap: Some(size),
+            ..change
+        },
+        Setting::RuntimeCap(number) => UserChange {
+            cap_ms: Some(number),
+            ..change
+        },
         _ => change,
     }
 }
@@ -93,9 +102,15 @@ pub fn set(statement: Statement, setting: Setting) -> Statement
     ensures { result ≡ set statement setting }
 {
     match statement {
-        Statement::CreatePool(name, change) => Statement::CreatePool(name, set_pool(change, setting)),
+        Statement::CreatePool(name, change) => Statement::CreatePool(
+            name,
+            set_pool(change, setting),
+        ),
         Statement::AlterPool(name, change) => Statement::AlterPool(name, set_pool(change, setting)),
-        Statement::CreateUser(name, change) => Statement::CreateUser(name, set_user(change, setting)),
+        Statement::CreateUser(name, change) => Statement::CreateUser(
+            name,
+            set_user(change, setting),
+        ),
         Statement::AlterUser(name, change) => Statement::AlterUser(name, set_user(change, setting)),
         _ => statement,
     }

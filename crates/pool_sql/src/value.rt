@@ -7,15 +7,12 @@ use crate::names::name_of;
 use crate::setting::Setting;
 use crate::stop::{Fault, Stop};
 use rm_base::definitions::default_pool_row;
-use rm_base::limits::{CONCURRENCY_MOST, THRESHOLD_SECONDS_MOST};
+use rm_base::limits::{CONCURRENCY_MOST, PRIORITY_MOST, THRESHOLD_SECONDS_MOST};
 use rm_base::name::Name;
 use rm_base::refusal::Parameter;
 use rm_base::rows::PoolRow;
 use rm_base::statement::{Level, Size};
 use rm_words::token::Token;
-
-/// The greatest PRIORITY, as a number without a sign.
-const PRIORITY_MOST: u64 = 100;
 
 fn is_default(token: &Token) -> bool
     ensures { result ≡ is_default (seen token.now) }
@@ -99,7 +96,7 @@ fn priority_of(token: &Token) -> Result<i32, Stop>
     if is_default(token) {
         return Ok(defaults().priority);
     }
-    match number_of(0, PRIORITY_MOST, token) {
+    match number_of(0, PRIORITY_MOST as u64, token) {
         Ok(number) => Ok(number as i32),
         Err(fault) => Err(stop_of(Parameter::Priority, fault)),
     }
@@ -109,7 +106,7 @@ fn priority_of(token: &Token) -> Result<i32, Stop>
 pub fn negative_of(token: &Token) -> Result<i32, Stop>
     ensures { result ≡ negative_of (seen token.now) }
 {
-    match number_of(0, PRIORITY_MOST, token) {
+    match number_of(0, PRIORITY_MOST as u64, token) {
         Ok(number) => Ok(-(number as i32)),
         Err(fault) => Err(stop_of(Parameter::Priority, fault)),
     }
@@ -193,16 +190,18 @@ pub fn value_of(parameter: Parameter, token: &Token) -> Result<Setting, Stop>
         Parameter::MaxQueryMemorySize => {
             optional_size(parameter, token).map(Setting::MaxQueryMemorySize)
         }
-        Parameter::ExecutionParallelism => parallelism_of(parameter, is_auto(token), token)
-            .map(Setting::ExecutionParallelism),
+        Parameter::ExecutionParallelism => parallelism_of(parameter, is_auto(token), token).map(
+            Setting::ExecutionParallelism,
+        ),
         Parameter::Priority => priority_of(token).map(Setting::Priority),
         Parameter::RuntimePriority => level_of(token).map(Setting::RuntimePriority),
         Parameter::RuntimePriorityThreshold => {
             threshold_of(token).map(Setting::RuntimePriorityThreshold)
         }
         Parameter::QueueTimeout => queue_timeout_of(token).map(Setting::QueueTimeout),
-        Parameter::PlannedConcurrency => parallelism_of(parameter, is_auto(token), token)
-            .map(Setting::PlannedConcurrency),
+        Parameter::PlannedConcurrency => parallelism_of(parameter, is_auto(token), token).map(
+            Setting::PlannedConcurrency,
+        ),
         Parameter::MaxConcurrency => {
             parallelism_of(parameter, is_none(token), token).map(Setting::MaxConcurrency)
         }

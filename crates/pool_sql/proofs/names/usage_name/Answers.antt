@@ -8,4 +8,4 @@ use Rattle.pool_sql.proofs.names.usage_name.Goals as goal
 pub returns : goal.returns
 returns c =
     name_text-eq c.unwrap.result usage_name
-      (subst (λ o. IfSome o (λ n. name_text n ≡ str_to_ascii_lowercase (codes "usage"))) c.unwrap.ensures c.of.ensures.text)
+    (subst (λ o. IfSome o (λ n. name_text n ≡ str_to_ascii_lowercase (codes "usage"))) c.unwrap.ensures c.of.ensures.text)

@@ -10,4 +10,4 @@ pub returns-clause-spells : goal.returns-clause-spells
 returns-clause-spells c =
     let st = c.args.statement.now in
     said_all (λ text. SpellsText text st) string_bytes c.statement_text.result (statement_text st)
-      (right-spells st (well_formed-right st c.requires)) c.statement_text.ensures
+    (right-spells st (well_formed-right st c.requires)) c.statement_text.ensures

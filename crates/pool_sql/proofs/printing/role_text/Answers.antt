@@ -9,7 +9,7 @@ use Rattle.pool_sql.proofs.printing.role_text.Goals as goal
 pub returns : goal.returns
 returns c =
     said_as string_bytes c.format.result
-      (codes "ALTER ROLE " ++ (name_text c.args.name ++ (codes " RESOURCE POOL " ++ value_text c.name_or_none-pool.result)))
-      (statement_text (statement.AlterRole c.args.name c.args.pool))
-      (ap (λ v. codes "ALTER ROLE " ++ (name_text c.args.name ++ (codes " RESOURCE POOL " ++ value_text v))) c.name_or_none-pool.ensures)
-      c.format.ensures.ok
+    (codes "ALTER ROLE " ++ (name_text c.args.name ++ (codes " RESOURCE POOL " ++ value_text c.name_or_none-pool.result)))
+    (statement_text (statement.AlterRole c.args.name c.args.pool))
+    (ap (λ v. codes "ALTER ROLE " ++ (name_text c.args.name ++ (codes " RESOURCE POOL " ++ value_text v))) c.name_or_none-pool.ensures)
+    c.format.ensures.ok

@@ -7,5 +7,5 @@ use Rattle.pool_sql.proofs.printing.with_pool.Goals as goal
 pub returns : goal.returns
 returns c =
     said_as string_bytes c.with_settings.result (string_bytes c.args.text ++ settings_text c.pool_settings.result)
-      (string_bytes c.args.text ++ settings_text (pool_settings c.args.change.now))
-      (ap (λ l. string_bytes c.args.text ++ settings_text l) c.pool_settings.ensures) c.with_settings.ensures
+    (string_bytes c.args.text ++ settings_text (pool_settings c.args.change.now))
+    (ap (λ l. string_bytes c.args.text ++ settings_text l) c.pool_settings.ensures) c.with_settings.ensures
