@@ -1,0 +1,113 @@
+-- a step reads a number as a program tells it
+use Rattle.std.proofs.Common.{◌≡◌, ℕ, ℤ, Bool, true, false, ◌&&◌, if◌then◌else◌, ◌⊎◌, inl, inr, Option, Some, None, Result, Ok, Err, List, [], ◌∷◌, ◌++◌, refl, sym, ◌∙◌, ap, subst, append_assoc, codes}
+use Rattle.rm_base.specs.declared.name.Name.{Name}
+use Rattle.rm_base.specs.declared.refusal.Parameter.{Parameter}
+use Rattle.rm_base.specs.declared.refusal.Parameter.TheVariants as parameter
+use Rattle.rm_base.specs.declared.statement.Statement.{Statement}
+use Rattle.rm_base.specs.declared.statement.Statement.TheVariants as statement
+use Rattle.rm_words.specs.declared.token.Symbol.{Symbol}
+use Rattle.rm_words.specs.declared.token.Symbol.TheVariants as symbol
+use Rattle.rm_words.specs.Token.{Token, Bare, Number, Quoted, Sign, is_key}
+use Rattle.pool_sql.specs.declared.progress.Giving.{Giving}
+use Rattle.pool_sql.specs.declared.progress.Giving.TheVariants as giving
+use Rattle.pool_sql.specs.declared.progress.Kind.{Kind}
+use Rattle.pool_sql.specs.declared.progress.Kind.TheVariants as kind
+use Rattle.pool_sql.specs.declared.progress.Progress.{Progress}
+use Rattle.pool_sql.specs.declared.progress.Progress.TheVariants.{Start, Verbed, OfResource, NameDue, Given, Usage, UsageOn, UsageResource, UsagePool, UsageOf, UsageTo, RoleOf, RoleTo, RoleNamed, RoleResource, RolePool, Part, CascadeTo, UserPool, ValueDue, MinusRead, Ended}
+use Rattle.pool_sql.specs.declared.progress.Verb.{Verb}
+use Rattle.pool_sql.specs.declared.progress.Verb.TheVariants as verb
+use Rattle.pool_sql.specs.declared.setting.Setting.{Setting}
+use Rattle.pool_sql.specs.declared.setting.Setting.TheVariants as setting
+use Rattle.pool_sql.specs.declared.stop.Stop.{Stop}
+use Rattle.pool_sql.specs.declared.stop.Stop.TheVariants as stop
+use Rattle.pool_sql.specs.Names.{name_of}
+use Rattle.pool_sql.specs.Parameter.{parameter_of, takes_any}
+use Rattle.pool_sql.specs.Setting.{is_named, set}
+use Rattle.pool_sql.specs.Value.{negative_of, optional_name, value_of}
+use Rattle.pool_sql.specs.Grammar.{IsBody, create_pool, alter_pool, drop_pool, create_user, alter_user, drop_user, create_role, alter_role, drop_role, grant_usage, revoke_usage, grant_role, revoke_role, named, IsValue, one, minus, IsValueDue, due, key, name, more_keys}
+use Rattle.pool_sql.specs.Machine.{Stepped, Edge, begun, edges, finish, is_minus, is_semicolon, keyed, on_given, on_key, on_name, on_negative, on_other, on_parameter, on_role_pool, on_value, role_given, step, stranger, to_key, usage_given}
+use Rattle.pool_sql.proofs.Keys.{is_key-eq}
+use Rattle.pool_sql.proofs.NameLemmas.{name_of-eq}
+use Rattle.std.proofs.Common.{min, pos, neg_ℤ, lit<, lit≤}
+use Rattle.rm_words.specs.Token.{capped, most}
+use Rattle.pool_sql.specs.Parameter.{parameter_among, parameters}
+use Rattle.pool_sql.specs.Value.{as_setting, optional, signed, taken}
+use Rattle.pool_sql.proofs.Amounts.{within-capped, within-capped_one}
+
+value-capped : (p : Parameter) (n : ℕ) → value_of p (Number (min n most)) ≡ value_of p (Number n)
+value-capped parameter.MemorySize n = refl
+value-capped parameter.MaxMemorySize n = refl
+value-capped parameter.MaxQueryMemorySize n = refl
+value-capped parameter.ExecutionParallelism n = ap (λ r. as_setting (λ x. setting.ExecutionParallelism x) (optional parameter.ExecutionParallelism false r)) (within-capped_one 1 1000 n most (lit< tt))
+value-capped parameter.Priority n = ap (λ r. as_setting (λ x. setting.Priority x) (signed parameter.Priority pos r)) (within-capped_one 0 100 n most (lit< tt))
+value-capped parameter.RuntimePriority n = refl
+value-capped parameter.RuntimePriorityThreshold n = ap (λ r. as_setting (λ x. setting.RuntimePriorityThreshold x) (taken parameter.RuntimePriorityThreshold r)) (within-capped_one 0 86400 n most (lit< tt))
+value-capped parameter.QueueTimeout n = ap (λ r. as_setting (λ x. setting.QueueTimeout x) (optional parameter.QueueTimeout false r)) (within-capped 0 31536000000 n 1000 most (lit≤ tt) (lit< tt))
+value-capped parameter.PlannedConcurrency n = ap (λ r. as_setting (λ x. setting.PlannedConcurrency x) (optional parameter.PlannedConcurrency false r)) (within-capped_one 1 1000 n most (lit< tt))
+value-capped parameter.MaxConcurrency n = ap (λ r. as_setting (λ x. setting.MaxConcurrency x) (optional parameter.MaxConcurrency false r)) (within-capped_one 1 1000 n most (lit< tt))
+value-capped parameter.RuntimeCap n = refl
+value-capped parameter.Cascade n = refl
+value-capped parameter.ResourcePool n = refl
+value-capped parameter.MemoryCap n = refl
+
+minus-capped : (p : Parameter) (m n : ℕ) → is_minus p (Number m) ≡ is_minus p (Number n)
+minus-capped parameter.MemorySize m n = refl
+minus-capped parameter.MaxMemorySize m n = refl
+minus-capped parameter.MaxQueryMemorySize m n = refl
+minus-capped parameter.ExecutionParallelism m n = refl
+minus-capped parameter.Priority m n = refl
+minus-capped parameter.RuntimePriority m n = refl
+minus-capped parameter.RuntimePriorityThreshold m n = refl
+minus-capped parameter.QueueTimeout m n = refl
+minus-capped parameter.PlannedConcurrency m n = refl
+minus-capped parameter.MaxConcurrency m n = refl
+minus-capped parameter.RuntimeCap m n = refl
+minus-capped parameter.Cascade m n = refl
+minus-capped parameter.ResourcePool m n = refl
+minus-capped parameter.MemoryCap m n = refl
+
+number_names_none : (n : ℕ) (ps : List Parameter) → parameter_among ps (Number n) ≡ None
+number_names_none n [] = refl
+number_names_none n (p ∷ ps) = number_names_none n ps
+
+on_key-number : (es : List Edge) (m n : ℕ) → on_key es (Number m) ≡ on_key es (Number n)
+on_key-number [] m n = refl
+on_key-number (e ∷ es) m n = on_key-number es m n
+
+value_due-capped : (st : Statement) (p : Parameter) (m n : ℕ) (r : Result Setting Stop) → on_value st p (Number m) r ≡ on_value st p (Number n) r
+value_due-capped st p m n (Ok x) = refl
+value_due-capped st p m n (Err why) = ap (λ b. let r : Stepped = if b then Ok (MinusRead st) else Err why in r) (minus-capped p m n)
+
+number-capped : (p : Progress) (n : ℕ) → step p (Number (min n most)) ≡ step p (Number n)
+number-capped Start n = refl
+number-capped (Verbed v) n = refl
+number-capped (OfResource v) n = refl
+number-capped (NameDue v k) n = refl
+number-capped (Given g) n = refl
+number-capped (Usage g) n = refl
+number-capped (UsageOn g) n = refl
+number-capped (UsageResource g) n = refl
+number-capped (UsagePool g) n = refl
+number-capped (UsageOf g p) n = refl
+number-capped (UsageTo g p) n = refl
+number-capped (RoleOf g r) n = refl
+number-capped (RoleTo g r) n = refl
+number-capped (RoleNamed m) n = refl
+number-capped (RoleResource m) n = refl
+number-capped (RolePool m) n = refl
+number-capped (Part b st) n =
+    ap (λ o. on_parameter b st (Number (min n most)) o) (number_names_none (min n most) (parameters st))
+    ∙ sym (ap (λ o. on_parameter b st (Number n) o) (number_names_none n (parameters st)))
+number-capped (CascadeTo st) n = refl
+number-capped (UserPool st) n = refl
+number-capped (ValueDue st p) n =
+    ap (λ r. on_value st p (Number (min n most)) r) (value-capped p n) ∙ value_due-capped st p (min n most) n (value_of p (Number n))
+number-capped (MinusRead st) n =
+    ap (λ r. on_negative st (signed parameter.Priority (λ x. neg_ℤ (pos x)) r)) (within-capped_one 0 100 n most (lit< tt))
+number-capped (Ended st) n = refl
+
+pub step-capped : (p : Progress) (t : Token) → step p (capped t) ≡ step p t
+step-capped p (Bare word) = refl
+step-capped p (Number n) = number-capped p n
+step-capped p (Quoted text) = refl
+step-capped p (Sign s) = refl

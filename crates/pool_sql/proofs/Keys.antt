@@ -1,0 +1,14 @@
+-- key words
+use Rattle.std.proofs.Common.{◌≡◌, ℕ, true, List, refl, ap}
+use Rattle.std.proofs.lemmas.Slice.Eq.{bytes_eq-Decides}
+use Rattle.rm_words.specs.Token.{Token, Bare, Number, Quoted, Sign, folded, is_key}
+use Rattle.pool_sql.specs.Grammar.{key}
+
+pub is_key-eq : (t : Token) (k : List ℕ) → is_key t k ≡ true → t ≡ key k
+is_key-eq (Bare word) k h = ap (λ l. Bare l) ((bytes_eq-Decides word (folded k)).0 h)
+is_key-eq (Number n) k h = absurd cc
+is_key-eq (Quoted text) k h = absurd cc
+is_key-eq (Sign s) k h = absurd cc
+
+pub is_key-key : (k : List ℕ) → is_key (key k) k ≡ true
+is_key-key k = (bytes_eq-Decides (folded k) (folded k)).1 refl

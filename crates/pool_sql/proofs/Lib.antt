@@ -1,0 +1,14 @@
+pub mod NameLemmas
+pub mod Keys
+pub mod Saying
+pub mod Means
+pub mod Complete
+pub mod Fronts
+pub mod Blamed
+pub mod Amounts
+pub mod Capped
+pub mod Readings
+pub mod Rights
+pub mod Results
+pub mod Prints
+pub mod Texts

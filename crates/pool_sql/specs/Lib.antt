@@ -1,0 +1,11 @@
+pub mod Setting
+pub mod Names
+pub mod Amount
+pub mod Value
+pub mod Parameter
+pub mod Grammar
+pub mod Machine
+pub mod Text
+pub mod Reading
+pub mod Right
+pub mod Printed

@@ -1,0 +1,225 @@
+ghost use Rattle.std.specs.Prelude.{◌≡◌, ◌-◌, ◌*◌, ◌^◌, ◌<◌, ◌≤◌, min, length};
+ghost use Rattle.std.specs.List.{list_any};
+ghost use Rattle.std.specs.Str.{bytes_eq};
+ghost use Rattle.std.specs.Str.Parse.{digits_value};
+ghost use Rattle.rm_words.specs.Class.{class_of};
+ghost use Rattle.rm_words.specs.Word.{is_digit};
+ghost use Rattle.rm_words.specs.Token.{AreDigits, most, seen};
+ghost use Rattle.pool_sql.specs.Amount.{bytes_in, digit_count, ms_in, number_of, percent_in, size_in, size_in_text, size_of, span_in, span_in_text, span_of, timeout_of, unit_bytes, unit_ms, within};
+
+use crate::stop::Fault;
+use rm_base::limits::{MEMORY_MOST, SPAN_MOST};
+use rm_base::statement::Size;
+use rm_words::class::{Class, class_of};
+use rm_words::token::Token;
+
+/// The greatest percentage.
+const PERCENT_MOST: u64 = 100;
+
+/// How many bytes a K of a size has.
+pub const KIBI: u64 = 1 << 10;
+
+const MEBI: u64 = 1 << 20;
+
+const GIBI: u64 = 1 << 30;
+
+const TEBI: u64 = 1 << 40;
+
+const SECOND: u64 = 1_000;
+
+const MINUTE: u64 = 60 * SECOND;
+
+const HOUR: u64 = 60 * MINUTE;
+
+fn within(least: u64, most: u64, number: u64) -> Result<u64, Fault>
+    ensures { result ≡ within least most number }
+{
+    if least <= number && number <= most {
+        Ok(number)
+    } else {
+        Err(Fault::Outside)
+    }
+}
+
+/// So many of a unit.
+fn scaled(least: u64, most: u64, number: u64, unit: u64) -> Result<u64, Fault>
+    requires { most < 2 ^ 64 - 1 }
+    ensures { result ≡ within least most (number * unit) }
+{
+    match number.checked_mul(unit) {
+        Some(product) => within(least, most, product),
+        None => Err(Fault::Outside),
+    }
+}
+
+pub fn number_of(least: u64, most: u64, token: &Token) -> Result<u64, Fault>
+    ensures { result ≡ number_of least most (seen token.now) }
+{
+    match token {
+        Token::Number(number) => within(least, most, *number),
+        _ => Err(Fault::Form),
+    }
+}
+
+fn is_digit(byte: u8) -> bool
+    ensures { result ≡ is_digit (class_of byte) }
+{
+    matches!(class_of(byte), Class::Digit)
+}
+
+/// With how many digits the text begins.
+fn digit_count(text: &[u8]) -> usize
+    ensures count { result ≡ digit_count text.now }
+    ensures within { result ≤ length text.now }
+{
+    for (i, byte) in text.iter().enumerate() {
+        if !is_digit(*byte) {
+            return i;
+        }
+    }
+    text.len()
+}
+
+/// The number that digits write, or the greatest `u64` where it is greater.
+fn digits_value(digits: &[u8]) -> u64
+    requires { AreDigits digits.now }
+    ensures { result ≡ min (digits_value 10 digits.now) most }
+{
+    let mut value: u64 = 0;
+    for byte in digits {
+        value = value
+            .saturating_mul(10)
+            .saturating_add(u64::from(*byte - b'0'));
+    }
+    value
+}
+
+fn unit_bytes(byte: u8) -> Option<u64>
+    ensures { result ≡ unit_bytes byte }
+{
+    match byte.to_ascii_lowercase() {
+        b'k' => Some(KIBI),
+        b'm' => Some(MEBI),
+        b'g' => Some(GIBI),
+        b't' => Some(TEBI),
+        _ => None,
+    }
+}
+
+fn percent_in(number: u64) -> Result<Size, Fault>
+    ensures { result ≡ percent_in number }
+{
+    let number = within(0, PERCENT_MOST, number)?;
+    Ok(Size::Percent(number as u8))
+}
+
+fn bytes_in(number: u64, unit: Option<u64>) -> Result<Size, Fault>
+    ensures { result ≡ bytes_in number unit }
+{
+    match unit {
+        None => Err(Fault::Form),
+        Some(unit) => scaled(0, MEMORY_MOST, number, unit).map(Size::Bytes),
+    }
+}
+
+fn size_in(number: u64, unit: &[u8]) -> Result<Size, Fault>
+    ensures { result ≡ size_in number unit.now }
+{
+    match unit {
+        [b'%'] => percent_in(number),
+        [byte] => bytes_in(number, unit_bytes(*byte)),
+        _ => Err(Fault::Form),
+    }
+}
+
+/// A size: digits and a unit between quotes.
+pub fn size_of(token: &Token) -> Result<Size, Fault>
+    ensures { result ≡ size_of (seen token.now) }
+{
+    match token {
+        Token::Quoted(text) => size_in_text(text.as_bytes()),
+        _ => Err(Fault::Form),
+    }
+}
+
+fn size_in_text(text: &[u8]) -> Result<Size, Fault>
+    ensures { result ≡ size_in_text text.now }
+{
+    let count = digit_count(text);
+    if count == 0 {
+        return Err(Fault::Form);
+    }
+    let (digits, unit) = text.split_at(count);
+    size_in(digits_value(digits), unit)
+}
+
+fn is_among(text: &[u8], words: &[&str]) -> bool
+    ensures { result ≡ list_any (λ word. bytes_eq text.now word.now) words.now }
+{
+    words.iter().any(|word| text == word.as_bytes())
+}
+
+fn unit_ms(unit: &[u8]) -> Option<u64>
+    ensures { result ≡ unit_ms unit.now }
+{
+    if is_among(unit, &["ms", "millisecond", "milliseconds"]) {
+        Some(1)
+    } else if is_among(unit, &["second", "seconds"]) {
+        Some(SECOND)
+    } else if is_among(unit, &["minute", "minutes"]) {
+        Some(MINUTE)
+    } else if is_among(unit, &["hour", "hours"]) {
+        Some(HOUR)
+    } else {
+        None
+    }
+}
+
+fn ms_in(least: u64, number: u64, unit: Option<u64>) -> Result<u64, Fault>
+    ensures { result ≡ ms_in least number unit }
+{
+    match unit {
+        None => Err(Fault::Form),
+        Some(unit) => scaled(least, SPAN_MOST, number, unit),
+    }
+}
+
+fn span_in(least: u64, number: u64, unit: &[u8]) -> Result<u64, Fault>
+    ensures { result ≡ span_in least number unit.now }
+{
+    match unit {
+        [b' ', unit @ ..] => ms_in(least, number, unit_ms(unit)),
+        _ => Err(Fault::Form),
+    }
+}
+
+/// A span in milliseconds, at least so long: digits, a space and a unit between quotes.
+pub fn span_of(least: u64, token: &Token) -> Result<u64, Fault>
+    ensures { result ≡ span_of least (seen token.now) }
+{
+    match token {
+        Token::Quoted(text) => span_in_text(least, text.as_bytes()),
+        _ => Err(Fault::Form),
+    }
+}
+
+fn span_in_text(least: u64, text: &[u8]) -> Result<u64, Fault>
+    ensures { result ≡ span_in_text least text.now }
+{
+    let count = digit_count(text);
+    if count == 0 {
+        return Err(Fault::Form);
+    }
+    let (digits, unit) = text.split_at(count);
+    span_in(least, digits_value(digits), unit)
+}
+
+/// A timeout in milliseconds: a number of seconds, or a span.
+pub fn timeout_of(token: &Token) -> Result<u64, Fault>
+    ensures { result ≡ timeout_of (seen token.now) }
+{
+    match token {
+        Token::Number(seconds) => scaled(0, SPAN_MOST, *seconds, SECOND),
+        _ => span_of(0, token),
+    }
+}

@@ -1,0 +1,37 @@
+//! What holds of every text and every statement, each law a function that does nothing.
+
+ghost use Rattle.std.specs.Prelude.{◌≡◌, ◌↔◌, ℕ, List, map};
+ghost use Rattle.rm_base.specs.declared.refusal.Refusal.{Refusal};
+ghost use Rattle.rm_base.specs.declared.statement.Statement.{Statement};
+ghost use Rattle.rm_words.specs.Cut.{AreWords};
+ghost use Rattle.rm_words.specs.Token.{token_of};
+ghost use Rattle.pool_sql.specs.Grammar.{IsFront};
+ghost use Rattle.pool_sql.specs.Right.{IsRight};
+ghost use Rattle.pool_sql.specs.Text.{BeginsText, IsRefused, IsWellFormed, SpellsText};
+
+/// A text is one statement at most.
+pub fn one_statement()
+    ensures { (text : List ℕ) (a b : Statement) → SpellsText text a → SpellsText text b → a ≡ b }
+{}
+
+/// A text is refused in one way at most.
+pub fn one_refusal()
+    ensures { (text : List ℕ) (a b : Refusal) → IsRefused text a → IsRefused text b → a ≡ b }
+{}
+
+/// What is refused is no statement.
+pub fn refused_spells_none()
+    ensures { (text : List ℕ) (refusal : Refusal) (statement : Statement)
+        → IsRefused text refusal → SpellsText text statement → ⊥ }
+{}
+
+/// Some text is a statement exactly where its values are in their ranges.
+pub fn well_formed_is_right()
+    ensures { (statement : Statement) → IsWellFormed statement ↔ IsRight statement }
+{}
+
+/// Words with which some statement begins are the first words of some text that is a statement.
+pub fn fronts_are_of_texts()
+    ensures { (words : List (List ℕ)) → AreWords words → IsFront (map token_of words)
+        → BeginsText words }
+{}
