@@ -10,7 +10,6 @@ ghost use Rattle.pool_sql.specs.Amount.{bytes_in, digit_count, ms_in, number_of,
 use crate::stop::Fault;
 use rm_base::limits::{MEMORY_MOST, SPAN_MOST};
 use rm_base::statement::Size;
-use rm_words::class::{Class, class_of};
 use rm_words::token::Token;
 
 /// The greatest percentage.
@@ -64,7 +63,7 @@ pub fn number_of(least: u64, most: u64, token: &Token) -> Result<u64, Fault>
 fn is_digit(byte: u8) -> bool
     ensures { result ≡ is_digit (class_of byte) }
 {
-    matches!(class_of(byte), Class::Digit)
+    byte.is_ascii_digit()
 }
 
 /// With how many digits the text begins.

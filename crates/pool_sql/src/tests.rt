@@ -4,6 +4,7 @@ use crate::setting::{no_pool_change, no_user_change};
 use rm_base::name::Name;
 use rm_base::refusal::{Parameter, Refusal};
 use rm_base::statement::{Level, PoolChange, Size, Statement, UserChange};
+use std::alloc::Global;
 use std::process::Abort;
 use std::test::Fail;
 
@@ -86,9 +87,18 @@ fn reads_each_form(rt: HostRuntime) -> Result<(), Fail> {
 }
 
 /// What follows `CREATE RESOURCE POOL p`, and what it sets.
+fn check_pool(rt: &impl Abort, alloc: Global, cases: &[(&str, PoolChange)]) -> Result<(), Fail> {
+    let p = name(rt, "p");
+    for (text, change) in cases {
+        let whole = format!(in alloc; "CREATE RESOURCE POOL p {text}")?;
+        let read = read_statement(alloc, whole.as_str());
+        assert_eq!(rt; read, Ok(Statement::CreatePool(p, *change)), "{text}");
+    }
+    Ok(())
+}
+
 #[test]
-fn reads_each_value_of_a_pool(rt: HostRuntime) -> Result<(), Fail> {
-    let (p, q) = (name(&rt, "p"), name(&rt, "q"));
+fn reads_sizes_of_a_pool(rt: HostRuntime) -> Result<(), Fail> {
     let none = no_pool_change();
     let cases = [
         (
@@ -189,6 +199,14 @@ fn reads_each_value_of_a_pool(rt: HostRuntime) -> Result<(), Fail> {
                 ..none
             },
         ),
+    ];
+    check_pool(&rt, rt.alloc(), &cases)
+}
+
+#[test]
+fn reads_numbers_of_a_pool(rt: HostRuntime) -> Result<(), Fail> {
+    let none = no_pool_change();
+    let cases = [
         (
             "EXECUTIONPARALLELISM 1",
             PoolChange {
@@ -217,6 +235,56 @@ fn reads_each_value_of_a_pool(rt: HostRuntime) -> Result<(), Fail> {
                 ..none
             },
         ),
+        (
+            "PLANNEDCONCURRENCY 2",
+            PoolChange {
+                planned: Some(Some(2)),
+                ..none
+            },
+        ),
+        (
+            "PLANNEDCONCURRENCY AUTO",
+            PoolChange {
+                planned: Some(None),
+                ..none
+            },
+        ),
+        (
+            "PLANNEDCONCURRENCY DEFAULT",
+            PoolChange {
+                planned: Some(None),
+                ..none
+            },
+        ),
+        (
+            "MAXCONCURRENCY 1000",
+            PoolChange {
+                concurrency: Some(Some(1_000)),
+                ..none
+            },
+        ),
+        (
+            "MAXCONCURRENCY NONE",
+            PoolChange {
+                concurrency: Some(None),
+                ..none
+            },
+        ),
+        (
+            "MAXCONCURRENCY DEFAULT",
+            PoolChange {
+                concurrency: Some(None),
+                ..none
+            },
+        ),
+    ];
+    check_pool(&rt, rt.alloc(), &cases)
+}
+
+#[test]
+fn reads_priorities_of_a_pool(rt: HostRuntime) -> Result<(), Fail> {
+    let none = no_pool_change();
+    let cases = [
         (
             "PRIORITY 100",
             PoolChange {
@@ -280,6 +348,14 @@ fn reads_each_value_of_a_pool(rt: HostRuntime) -> Result<(), Fail> {
                 ..none
             },
         ),
+    ];
+    check_pool(&rt, rt.alloc(), &cases)
+}
+
+#[test]
+fn reads_times_of_a_pool(rt: HostRuntime) -> Result<(), Fail> {
+    let none = no_pool_change();
+    let cases = [
         (
             "RUNTIMEPRIORITYTHRESHOLD 0",
             PoolChange {
@@ -343,48 +419,14 @@ fn reads_each_value_of_a_pool(rt: HostRuntime) -> Result<(), Fail> {
                 ..none
             },
         ),
-        (
-            "PLANNEDCONCURRENCY 2",
-            PoolChange {
-                planned: Some(Some(2)),
-                ..none
-            },
-        ),
-        (
-            "PLANNEDCONCURRENCY AUTO",
-            PoolChange {
-                planned: Some(None),
-                ..none
-            },
-        ),
-        (
-            "PLANNEDCONCURRENCY DEFAULT",
-            PoolChange {
-                planned: Some(None),
-                ..none
-            },
-        ),
-        (
-            "MAXCONCURRENCY 1000",
-            PoolChange {
-                concurrency: Some(Some(1_000)),
-                ..none
-            },
-        ),
-        (
-            "MAXCONCURRENCY NONE",
-            PoolChange {
-                concurrency: Some(None),
-                ..none
-            },
-        ),
-        (
-            "MAXCONCURRENCY DEFAULT",
-            PoolChange {
-                concurrency: Some(None),
-                ..none
-            },
-        ),
+    ];
+    check_pool(&rt, rt.alloc(), &cases)
+}
+
+#[test]
+fn reads_spans_of_a_pool(rt: HostRuntime) -> Result<(), Fail> {
+    let none = no_pool_change();
+    let cases = [
         (
             "RUNTIMECAP '1 ms'",
             PoolChange {
@@ -455,6 +497,15 @@ fn reads_each_value_of_a_pool(rt: HostRuntime) -> Result<(), Fail> {
                 ..none
             },
         ),
+    ];
+    check_pool(&rt, rt.alloc(), &cases)
+}
+
+#[test]
+fn reads_cascades_of_a_pool(rt: HostRuntime) -> Result<(), Fail> {
+    let q = name(&rt, "q");
+    let none = no_pool_change();
+    let cases = [
         (
             "CASCADE TO Q",
             PoolChange {
@@ -477,12 +528,7 @@ fn reads_each_value_of_a_pool(rt: HostRuntime) -> Result<(), Fail> {
             },
         ),
     ];
-    for (text, change) in cases {
-        let whole = format!(in rt.alloc(); "CREATE RESOURCE POOL p {text}")?;
-        let read = read_statement(rt.alloc(), whole.as_str());
-        assert_eq!(rt; read, Ok(Statement::CreatePool(p, change)), "{text}");
-    }
-    Ok(())
+    check_pool(&rt, rt.alloc(), &cases)
 }
 
 #[test]
