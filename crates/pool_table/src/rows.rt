@@ -4,8 +4,8 @@ ghost use Rattle.std.specs.List.{list_all};
 ghost use Rattle.rm_base.specs.declared.limits.TheConstants.{MEMORY_MOST, POOLS_MOST};
 ghost use Rattle.rm_rules.specs.Definitions.{pool_called, pool_row, total, reserved};
 ghost use Rattle.rm_rules.specs.Sound.{IsSound};
-ghost use Rattle.rm_base.specs.Ranges.{is_pool_in_range};
-ghost use Rattle.rm_rules.specs.Acceptance.{is_pool_change_in_range, bytes_of, max_whole, changed_row, created_row, altered_row};
+ghost use Rattle.rm_base.specs.Ranges.{is_pool_change_in_range, is_pool_in_range};
+ghost use Rattle.rm_rules.specs.Acceptance.{bytes_of, max_whole, changed_row, created_row, altered_row};
 
 use rm_base::definitions::{Definitions, default_pool_row};
 use rm_base::name::Name;

@@ -1,8 +1,8 @@
 //! Statements and what acceptance answers, each worked out by hand.
 ghost use Rattle.std.specs.Prelude.{◌≡◌, IsTrue, nat_le};
 ghost use Rattle.rm_base.specs.declared.limits.TheConstants.{CONCURRENCY_MOST, THRESHOLD_SECONDS_MOST, SPAN_MOST};
-ghost use Rattle.rm_base.specs.Ranges.{passes_if_set, is_between, is_priority};
-ghost use Rattle.rm_rules.specs.Acceptance.{IsWellFormed, is_size, is_pool_change_in_range, is_well_formed, is_pool_statement};
+ghost use Rattle.rm_base.specs.Ranges.{passes_if_set, is_between, is_priority, is_size, is_pool_change_in_range, is_statement_in_range};
+ghost use Rattle.rm_rules.specs.Acceptance.{IsWellFormed, is_pool_statement};
 
 use super::*;
 use crate::soundness::{is_cap, is_concurrency, is_priority, is_timeout};

@@ -1,8 +1,14 @@
--- The ranges of the values that rows have.
+-- The ranges of the values that rows have, and of those that statements name.
 use Rattle.std.specs.Prelude.{ℕ, Bool, true, ◌&&◌, nat_le, nat_lt, Option, Some, None, ℤ, pos, negsuc}
 use Rattle.rm_base.specs.declared.limits.TheConstants.{MEMORY_MOST, CONCURRENCY_MOST, THRESHOLD_SECONDS_MOST, SPAN_MOST}
 use Rattle.rm_base.specs.declared.rows.PoolRow.{PoolRow}
 use Rattle.rm_base.specs.declared.rows.UserRow.{UserRow}
+use Rattle.rm_base.specs.declared.statement.Size.{Size}
+use Rattle.rm_base.specs.declared.statement.Size.TheVariants.{Bytes, Percent}
+use Rattle.rm_base.specs.declared.statement.PoolChange.{PoolChange}
+use Rattle.rm_base.specs.declared.statement.UserChange.{UserChange}
+use Rattle.rm_base.specs.declared.statement.Statement.{Statement}
+use Rattle.rm_base.specs.declared.statement.Statement.TheVariants.{CreatePool, AlterPool, CreateUser, AlterUser}
 
 -- a value, where there is one, passes the test
 abbrev pub passes_if_set : {A : Type 0} → (A → Bool) → Option A → Bool
@@ -36,3 +42,35 @@ is_pool_in_range pool =
 abbrev pub is_user_in_range : UserRow → Bool
 is_user_in_range user =
     passes_if_set (λ n. nat_le n MEMORY_MOST) user.memory_cap && passes_if_set (is_between 1 SPAN_MOST) user.cap_ms
+
+-- a size is at most 2^50 bytes, or 100 percent
+abbrev pub is_size : Size → Bool
+is_size (Bytes n) = nat_le n MEMORY_MOST
+is_size (Percent n) = nat_le n 100
+
+-- every value that is named for a pool is in its range
+abbrev pub is_pool_change_in_range : PoolChange → Bool
+is_pool_change_in_range c =
+    passes_if_set is_size c.memory
+    && (passes_if_set (passes_if_set is_size) c.max
+    && (passes_if_set (passes_if_set is_size) c.query_max
+    && (passes_if_set (passes_if_set (is_between 1 CONCURRENCY_MOST)) c.parallel
+    && (passes_if_set is_priority c.priority
+    && (passes_if_set (λ n. nat_le n THRESHOLD_SECONDS_MOST) c.threshold_s
+    && (passes_if_set (passes_if_set (λ n. nat_le n SPAN_MOST)) c.queue_ms
+    && (passes_if_set (passes_if_set (is_between 1 CONCURRENCY_MOST)) c.planned
+    && (passes_if_set (passes_if_set (is_between 1 CONCURRENCY_MOST)) c.concurrency
+    && passes_if_set (passes_if_set (is_between 1 SPAN_MOST)) c.cap_ms))))))))
+
+-- every value that is named for a user is in its range
+abbrev pub is_user_change_in_range : UserChange → Bool
+is_user_change_in_range c =
+    passes_if_set (passes_if_set is_size) c.memory_cap && passes_if_set (passes_if_set (is_between 1 SPAN_MOST)) c.cap_ms
+
+-- every value that a statement names is in its range
+abbrev pub is_statement_in_range : Statement → Bool
+is_statement_in_range (CreatePool name change) = is_pool_change_in_range change
+is_statement_in_range (AlterPool name change) = is_pool_change_in_range change
+is_statement_in_range (CreateUser name change) = is_user_change_in_range change
+is_statement_in_range (AlterUser name change) = is_user_change_in_range change
+is_statement_in_range _ = true

@@ -1,14 +1,16 @@
-//! Names, moments, rows, statements, events and replies of poolhost, and its limits.
+//! Names, moments, rows, statements, events, replies and snapshots of poolhost, and its limits.
 #![tactic(auto)]
 
 pub mod definitions;
 pub mod entry;
 pub mod event;
 pub mod limits;
+pub mod listed;
 pub mod moment;
 pub mod name;
 pub mod refusal;
 pub mod reply;
 pub mod rows;
+pub mod snapshot;
 pub mod statement;
 pub mod tables;

@@ -19,8 +19,8 @@ use Rattle.rm_base.specs.Definitions.{default_pool_row}
 use Rattle.rm_base.proofs.Names.{same_name-refl, same_name-eq}
 use Rattle.rm_rules.specs.Definitions.{pool_called, pool_row, user_called, role_called, total, reserved}
 use Rattle.rm_rules.specs.Sound.{IsSound, is_within_max, has_pool, chain_ends, is_grant_known, begins_with_general}
-use Rattle.rm_base.specs.Ranges.{passes_if_set, is_between, is_pool_in_range}
-use Rattle.rm_rules.specs.Acceptance.{IsWellFormed, is_pool_statement, is_pool_change_in_range, bytes_of, created_row, altered_row, with_row, with_pool, refused_if, first_refusal, total_out_of_range, name_taken, pool_missing, general_reserves, max_below_memory, general_too_small, target_missing, chain, cascade_loop, length_through, longest_through, chain_too_long, pools_full, changes_full, outcome_refusal, create_refusal, alter_refusal, unless_refused, accepted}
+use Rattle.rm_base.specs.Ranges.{passes_if_set, is_between, is_pool_change_in_range, is_pool_in_range}
+use Rattle.rm_rules.specs.Acceptance.{IsWellFormed, is_pool_statement, bytes_of, created_row, altered_row, with_row, with_pool, refused_if, first_refusal, total_out_of_range, name_taken, pool_missing, general_reserves, max_below_memory, general_too_small, target_missing, chain, cascade_loop, length_through, longest_through, chain_too_long, pools_full, changes_full, outcome_refusal, create_refusal, alter_refusal, unless_refused, accepted}
 use Rattle.rm_rules.proofs.Taken.{and_left, and_right, and_both, all_found, found_passes, not_true}
 use Rattle.rm_rules.proofs.Known.{general-there}
 use Rattle.rm_rules.proofs.AcceptancePools.{all_with, called_with, there_with, distinct_with, length_with-there, length_with-most, first_with}

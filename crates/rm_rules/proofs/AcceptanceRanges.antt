@@ -13,8 +13,8 @@ use Rattle.rm_base.specs.declared.statement.Size.TheVariants.{Bytes, Percent}
 use Rattle.rm_base.specs.declared.statement.PoolChange.{PoolChange}
 use Rattle.rm_base.specs.Name.{same_name, general}
 use Rattle.rm_rules.specs.Definitions.{total}
-use Rattle.rm_base.specs.Ranges.{passes_if_set, is_between, is_priority, is_pool_in_range}
-use Rattle.rm_rules.specs.Acceptance.{is_size, is_pool_change_in_range, bytes_of, max_whole, changed_row}
+use Rattle.rm_base.specs.Ranges.{passes_if_set, is_between, is_priority, is_size, is_pool_change_in_range, is_pool_in_range}
+use Rattle.rm_rules.specs.Acceptance.{bytes_of, max_whole, changed_row}
 use Rattle.rm_rules.proofs.Taken.{and_left, and_right, and_both}
 
 le-true : (a b : ℕ) → a ≤ b → nat_le a b ≡ true

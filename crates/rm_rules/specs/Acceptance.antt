@@ -19,41 +19,11 @@ use Rattle.rm_base.specs.Name.{same_name, general}
 use Rattle.rm_base.specs.Definitions.{default_pool_row}
 use Rattle.rm_rules.specs.Definitions.{pool_called, pool_row, total, reserved}
 use Rattle.rm_rules.specs.Sound.{has_pool}
-use Rattle.rm_base.specs.Ranges.{passes_if_set, is_between, is_priority}
+use Rattle.rm_base.specs.Ranges.{is_between, is_statement_in_range}
 
--- a size is at most 2^50 bytes, or 100 percent
-abbrev pub is_size : Size → Bool
-is_size (Bytes n) = nat_le n MEMORY_MOST
-is_size (Percent n) = nat_le n 100
-
--- every value that is named for a pool is in its range
-abbrev pub is_pool_change_in_range : PoolChange → Bool
-is_pool_change_in_range c =
-    passes_if_set is_size c.memory
-    && (passes_if_set (passes_if_set is_size) c.max
-    && (passes_if_set (passes_if_set is_size) c.query_max
-    && (passes_if_set (passes_if_set (is_between 1 CONCURRENCY_MOST)) c.parallel
-    && (passes_if_set is_priority c.priority
-    && (passes_if_set (λ n. nat_le n THRESHOLD_SECONDS_MOST) c.threshold_s
-    && (passes_if_set (passes_if_set (λ n. nat_le n SPAN_MOST)) c.queue_ms
-    && (passes_if_set (passes_if_set (is_between 1 CONCURRENCY_MOST)) c.planned
-    && (passes_if_set (passes_if_set (is_between 1 CONCURRENCY_MOST)) c.concurrency
-    && passes_if_set (passes_if_set (is_between 1 SPAN_MOST)) c.cap_ms))))))))
-
--- every value that is named for a user is in its range
-abbrev pub is_user_change_in_range : UserChange → Bool
-is_user_change_in_range c =
-    passes_if_set (passes_if_set is_size) c.memory_cap && passes_if_set (passes_if_set (is_between 1 SPAN_MOST)) c.cap_ms
-
-abbrev pub is_well_formed : Statement → Bool
-is_well_formed (CreatePool name change) = is_pool_change_in_range change
-is_well_formed (AlterPool name change) = is_pool_change_in_range change
-is_well_formed (CreateUser name change) = is_user_change_in_range change
-is_well_formed (AlterUser name change) = is_user_change_in_range change
-is_well_formed _ = true
-
+-- every value that the statement names is in its range
 abbrev pub IsWellFormed : Statement → Type 0
-IsWellFormed statement = is_well_formed statement ≡ true
+IsWellFormed statement = is_statement_in_range statement ≡ true
 
 -- the statements that are judged: CREATE and ALTER RESOURCE POOL
 abbrev pub is_pool_statement : Statement → Bool
