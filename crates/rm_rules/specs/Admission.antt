@@ -102,7 +102,3 @@ repeated pick act (suc turns) s = elim (pick s) [ Some w ↦ repeated pick act t
 -- admission: while some head is entitled, the first one is admitted
 abbrev pub admission : State → State
 admission s = repeated first_entitled admitted (length s.waiting) s
-
--- what follows each change: admission
-abbrev pub settled : State → State
-settled s = admission s

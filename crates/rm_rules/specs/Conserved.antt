@@ -3,7 +3,7 @@ use Rattle.std.specs.Prelude.{◌≡◌, ◌⊎◌, ℕ, ◌+◌, ◌<◌, ◌�
 use Rattle.rm_base.specs.declared.entry.Account.{Account}
 use Rattle.rm_base.specs.declared.entry.Entry.{Entry}
 use Rattle.rm_base.specs.declared.event.Event.{Event}
-use Rattle.rm_base.specs.declared.event.Event.TheVariants.{Open, Submit, Finish}
+use Rattle.rm_base.specs.declared.event.Event.TheVariants.{Define, Open, SetPool, Submit, Poll, Finish}
 use Rattle.rm_base.specs.declared.name.Name.{Name}
 use Rattle.rm_base.specs.Name.{same_name, general}
 use Rattle.rm_rules.specs.declared.state.Runner.{Runner}
@@ -51,10 +51,14 @@ pub record IsConserved (s : State) : Type 0 where
 
 -- an event changes no grant, and takes none away but that a Finish takes its own, whole
 abbrev pub KeepsGrants : State → State → Event → Type 0
-KeepsGrants old new (Open user) = (more : List Runner) × (new.running ≡ old.running ++ more)
-KeepsGrants old new (Submit session floor) = (more : List Runner) × (new.running ≡ old.running ++ more)
 KeepsGrants old new (Finish session) =
     (new.running ≡ old.running) ⊎ ((more : List Runner) × (new.running ≡ without_runner session old.running ++ more))
+KeepsGrants old new _ = (more : List Runner) × (new.running ≡ old.running ++ more)
+
+-- the memory in force rises only where a statement raises the total
+abbrev pub RaisesForce : State → State → Event → Type 0
+RaisesForce old new (Define statement) = old.in_force < new.in_force → total old.definitions < total new.definitions
+RaisesForce old new _ = new.in_force ≤ old.in_force
 
 -- after each of these entries, from this state on, the quantity is conserved
 abbrev pub ConservedAfterEach : State → List Entry → Type 0

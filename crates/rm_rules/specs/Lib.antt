@@ -3,9 +3,11 @@ pub mod Budget
 pub mod State
 pub mod Accounting
 pub mod Admission
+pub mod Shuffle
+pub mod Settle
 pub mod Change
 pub mod Step
 pub mod Sound
+pub mod Acceptance
 pub mod Healthy
 pub mod Conserved
-pub mod Acceptance

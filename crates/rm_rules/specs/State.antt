@@ -1,10 +1,14 @@
 -- The state of the pool machine.
-use Rattle.std.specs.Prelude.{ℕ, Bool, ◌==◌, ◌∷◌, List, [], Option, Some, None, option_and_then, find, map, true, false, if◌then◌else◌, not, count_by}
+use Rattle.std.specs.Prelude.{ℕ, ◌+◌, ◌-◌, ◌^◌, min, Bool, ◌==◌, ◌∷◌, List, [], Option, Some, None, option_and_then, find, map, true, false, if◌then◌else◌, not, count_by}
 use Rattle.rm_base.specs.declared.definitions.Definitions.{Definitions}
 use Rattle.rm_base.specs.declared.entry.EndCounts.{EndCounts}
 use Rattle.rm_base.specs.declared.entry.MoveSeen.{MoveSeen}
 use Rattle.rm_base.specs.declared.entry.Entry.{Entry}
 use Rattle.rm_base.specs.declared.name.Name.{Name}
+use Rattle.rm_base.specs.declared.rows.PoolRow.{PoolRow}
+use Rattle.rm_base.specs.Name.{same_name}
+use Rattle.rm_base.specs.declared.reply.End.{End}
+use Rattle.rm_base.specs.declared.reply.End.TheVariants as end
 use Rattle.rm_base.specs.declared.reply.Reply.{Reply}
 use Rattle.rm_base.specs.declared.reply.Reply.TheVariants.{Defined}
 use Rattle.rm_rules.specs.declared.state.Phase.{Phase}
@@ -75,6 +79,27 @@ abbrev pub with_phase : ℕ → Phase → List Session → List Session
 with_phase number now [] = []
 with_phase number now (x ∷ xs) = if x.number == number then (record x { phase = now }) ∷ xs else x ∷ with_phase number now xs
 
+-- the sessions, with another chosen pool of the one of this number
+abbrev pub with_choice : ℕ → Name → List Session → List Session
+with_choice number pool [] = []
+with_choice number pool (x ∷ xs) = if x.number == number then (record x { pool = Some pool }) ∷ xs else x ∷ with_choice number pool xs
+
+-- one more, as far as the count goes
+abbrev pub one_more : ℕ → ℕ
+one_more n = min (n + 1) (2 ^ 64 - 1)
+
+-- the counts of a pool, with this end more
+abbrev pub with_one_end : End → EndCounts → EndCounts
+with_one_end (end.TimedOut deadline) c = record c { timedout = one_more c.timedout }
+with_one_end (end.TooLarge which floor cap) c = record c { toolarge = one_more c.toolarge }
+with_one_end end.Cancelled c = record c { cancelled = one_more c.cancelled }
+
+-- the counters of these pools, with this end more of the pool of this name
+abbrev pub with_end : List PoolRow → Name → End → List EndCounts → List EndCounts
+with_end [] pool end counters = counters
+with_end (r ∷ rs) pool end [] = []
+with_end (r ∷ rs) pool end (c ∷ cs) = if same_name r.name pool then with_one_end end c ∷ cs else c ∷ with_end rs pool end cs
+
 -- the list without the first that passes the test
 abbrev pub without : {A : Type 0} → (A → Bool) → List A → List A
 without test [] = []
@@ -105,6 +130,13 @@ is_waiting phase.Waiting = true
 is_waiting phase.Running = false
 is_waiting (phase.Ended end) = false
 
+-- the session's query waits or runs
+abbrev pub is_active : Phase → Bool
+is_active phase.Idle = false
+is_active phase.Waiting = true
+is_active phase.Running = true
+is_active (phase.Ended end) = false
+
 -- the phase of the session of this number; one that is not open has no query
 abbrev pub phase_of : List Session → ℕ → Phase
 phase_of sessions number = elim (session_called sessions number) [ Some x ↦ x.phase | None ↦ phase.Idle ]
@@ -112,6 +144,9 @@ phase_of sessions number = elim (session_called sessions number) [ Some x ↦ x.
 -- a query is live while its session is not idle
 abbrev pub live_queries : List Session → ℕ
 live_queries sessions = count_by (λ x. not (is_idle x.phase)) sessions
+
+abbrev pub active_queries : List Session → ℕ
+active_queries sessions = count_by (λ x. is_active x.phase) sessions
 
 abbrev pub is_defined : Reply → Bool
 is_defined Defined = true

@@ -2,12 +2,14 @@
 use Rattle.std.specs.Prelude.{◌≡◌, ℕ, Bool, true, false, ◌==◌, List, [], ◌∷◌, ◌++◌, Result, Ok, Err, max, filter, if◌then◌else◌}
 use Rattle.rm_base.specs.declared.entry.Entry.{Entry}
 use Rattle.rm_base.specs.declared.event.Event.{Event}
-use Rattle.rm_base.specs.declared.event.Event.TheVariants.{Open, Submit, Finish}
+use Rattle.rm_base.specs.declared.event.Event.TheVariants.{Define, Open, SetPool, Submit, Poll, Finish}
+use Rattle.rm_base.specs.Ranges.{is_statement_in_range}
 use Rattle.rm_base.specs.declared.refusal.Refusal.{Refusal}
 use Rattle.rm_base.specs.declared.reply.Reply.{Reply}
 use Rattle.rm_base.specs.declared.reply.Reply.TheVariants as reply
 use Rattle.rm_rules.specs.State.{State}
-use Rattle.rm_rules.specs.Admission.{settled}
+use Rattle.rm_rules.specs.Acceptance.{is_pool_statement}
+use Rattle.rm_rules.specs.Settle.{settled}
 use Rattle.rm_rules.specs.Change.{Change, change, reply_of}
 
 -- what an event leaves, what is replied, and whether it made an entry
@@ -24,7 +26,7 @@ noted seat moment event answer = record { seat = seat; at = moment; event = even
 abbrev pub recorded : State → Entry → State
 recorded s entry = record s { journal = s.journal ++ entry ∷ [] }
 
--- what follows an accepted event: what changed settles, and the entry is made
+-- what follows an event that changed something: it settles, and the entry is made
 abbrev pub accepted : ℕ → Event → State → Reply → Outcome
 accepted seat event s answer = record {
   state = recorded s (noted seat s.clock event answer);
@@ -32,10 +34,16 @@ accepted seat event s answer = record {
   entry = true;
 }
 
--- the outcome of a change, or of a refusal, which leaves the state as it was
+-- an event that changes nothing leaves the state as it was, the clock too
+abbrev pub quietly : State → Reply → Outcome
+quietly s answer = record { state = s; reply = answer; entry = false }
+
+-- the outcome of a change, or of a refusal
 abbrev pub outcome : State → ℕ → Event → Result Change Refusal → Outcome
-outcome s seat event (Err refusal) = record { state = s; reply = reply.Refused refusal; entry = false }
-outcome s seat event (Ok c) = accepted seat event (settled c.state) (reply_of (settled c.state) c.answer)
+outcome s seat event (Err refusal) = quietly s (reply.Refused refusal)
+outcome s seat event (Ok c) =
+    if c.changed then accepted seat event (settled c.state) (reply_of (settled c.state) c.answer)
+    else quietly s (reply_of c.state c.answer)
 
 -- the state at the later of its clock and the moment that was handed in
 abbrev pub moved_to : State → ℕ → State
@@ -54,10 +62,16 @@ abbrev pub replay : State → List Entry → State
 replay s [] = s
 replay s (e ∷ es) = replay (step s e.seat e.at e.event).state es
 
+-- a statement is on pools, and every value that it names is in its range
+abbrev pub IsFormed : Event → Type 0
+IsFormed (Define statement) = (is_pool_statement statement ≡ true) × (is_statement_in_range statement ≡ true)
+IsFormed _ = Unit {0}
+
 -- each entry is just the one that its event makes at its place
 abbrev pub IsLegal : State → List Entry → Type 0
 IsLegal s [] = Unit {0}
-IsLegal s (e ∷ es) = (made s e.seat e.at e.event ≡ e ∷ []) × IsLegal (step s e.seat e.at e.event).state es
+IsLegal s (e ∷ es) =
+    IsFormed e.event × (made s e.seat e.at e.event ≡ e ∷ []) × IsLegal (step s e.seat e.at e.event).state es
 
 -- the entries of one seat
 abbrev pub own_entries : ℕ → List Entry → List Entry
@@ -65,9 +79,8 @@ own_entries seat entries = filter (λ e. e.seat == seat) entries
 
 -- an event that is a statement
 abbrev pub is_define : Event → Bool
-is_define (Open user) = false
-is_define (Submit session floor) = false
-is_define (Finish session) = false
+is_define (Define statement) = true
+is_define _ = false
 
 -- each statement comes from the first seat
 abbrev pub FromFirst : List Entry → Type 0

@@ -10,23 +10,25 @@ ghost use Rattle.rm_rules.specs.Budget.{cap};
 ghost use Rattle.rm_rules.specs.State.{State, start};
 ghost use Rattle.rm_rules.specs.Accounting.{used};
 ghost use Rattle.rm_rules.specs.Admission.{first_entitled, admitted};
-ghost use Rattle.rm_rules.specs.Step.{step, made, replay, IsLegal};
+ghost use Rattle.rm_rules.specs.Step.{step, made, replay, IsFormed, IsLegal};
 ghost use Rattle.rm_rules.specs.Sound.{IsSound};
 ghost use Rattle.rm_rules.specs.Healthy.{IsHealthy};
-ghost use Rattle.rm_rules.specs.Conserved.{ConservedAfterEach, KeepsGrants};
+ghost use Rattle.rm_rules.specs.Conserved.{ConservedAfterEach, KeepsGrants, RaisesForce};
 
-/// Every state that a history leaves, from sound definitions on, is healthy.
+/// Every state that a legal history leaves, from sound definitions on, is healthy.
 pub fn histories_are_healthy()
     ensures { (d : Definitions) (room : ℕ) (entries : List Entry)
         → IsSound d
+        → IsLegal (start d room) entries
         → IsHealthy (replay (start d room) entries) }
 {}
 
-/// After each entry of a history, running grants, unused reservations and GENERAL's free bytes add up to the memory in
+/// After each entry of a legal history, running grants, unused reservations and GENERAL's free bytes add up to the memory in
 /// force, and the accounts with them.
 pub fn conserved_after_each_event()
     ensures { (d : Definitions) (room : ℕ) (entries : List Entry)
         → IsSound d
+        → IsLegal (start d room) entries
         → ConservedAfterEach (start d room) entries }
 {}
 
@@ -36,6 +38,14 @@ pub fn grants_are_kept()
         → KeepsGrants s (step s seat at event).state event }
 {}
 
+/// The memory in force rises only where a statement raises the total.
+pub fn force_rises_with_the_total()
+    ensures { (s : State) (seat at : ℕ) (event : Event)
+        → IsHealthy s
+        → IsFormed event
+        → RaisesForce s (step s seat at event).state event }
+{}
+
 /// Right after each admission the pool's use is within its cap, under the definitions in force.
 pub fn admissions_stay_within_the_cap()
     ensures { (s : State) (w : Waiter)
@@ -43,9 +53,10 @@ pub fn admissions_stay_within_the_cap()
         → used w.pool (admitted s w).running ≤ cap s.definitions (pool_row s.definitions w.pool) }
 {}
 
-/// A legal history goes on with what an event makes, and leads where the event leads.
+/// A legal history goes on with what a well formed event makes, and leads where the event leads.
 pub fn histories_go_on()
     ensures legal { (s : State) (entries : List Entry) (seat at : ℕ) (event : Event)
+        → IsFormed event
         → IsLegal s entries
         → IsLegal s (entries ++ made (replay s entries) seat at event) }
     ensures replays { (s : State) (entries : List Entry) (seat at : ℕ) (event : Event)
