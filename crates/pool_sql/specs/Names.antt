@@ -3,7 +3,7 @@ use Rattle.std.specs.Prelude.{ℕ, if◌then◌else◌, Option, None, List, ◌+
 use Rattle.rm_base.specs.declared.name.Name.{Name}
 use Rattle.rm_base.specs.NameText.{is_name_text, keeps_name}
 use Rattle.rm_base.specs.Name.{name_kept, padded}
-use Rattle.rm_words.specs.Token.{Token, Bare, Number, Quoted, Sign}
+use Rattle.rm_words.specs.Token.{Token, Bare}
 
 -- the name whose text this is, where it is a name's. A token's word is in lower case already
 unfoldable pub name_called : List ℕ → Option Name
