@@ -1,10 +1,10 @@
 //! What a pool's queries get by the definitions alone: thresholds, budgets, caps and asks, in bytes. It takes no memory.
 #![tactic(auto)]
 
-ghost use Rattle.std.specs.Prelude.{◌≡◌, ◌≤◌, ◌*◌, true, false, IfOk, IfErr, OnOk, OnErr};
+ghost use Rattle.std.specs.Prelude.{◌≡◌, ◌≤◌, ◌*◌, ◌↔◌, IsTrue, IsErr, IfOk, IfErr};
 ghost use Rattle.rm_base.specs.declared.limits.TheConstants.{MEMORY_MOST};
 ghost use Rattle.rm_rules.specs.Definitions.{pool_row, total, planned};
-ghost use Rattle.rm_rules.specs.Budget.{threshold, budget, cap, ask, is_too_large, too_large};
+ghost use Rattle.rm_rules.specs.Budget.{threshold, budget, cap, least_cap, ask, is_too_large, too_large};
 ghost use Rattle.rm_rules.specs.Sound.{IsSound};
 
 mod caps;
@@ -13,12 +13,11 @@ mod shares;
 
 use crate::caps::{least_cap, row_cap};
 use crate::definitions::pool_row;
+pub use crate::definitions::total;
 use crate::shares::{row_budget, row_planned, row_threshold};
 use rm_base::definitions::Definitions;
 use rm_base::name::Name;
 use rm_base::refusal::Refusal;
-
-pub use crate::definitions::total;
 
 /// PLANNEDCONCURRENCY in force: so many queries share what the pool has.
 pub fn planned(definitions: &Definitions, pool: Name) -> u32
@@ -57,18 +56,13 @@ pub fn cap(definitions: &Definitions, pool: Name) -> u64
 }
 
 /// What a query of this user with this floor asks for in the pool. A floor above the least cap is refused.
-pub fn ask(
-    definitions: &Definitions,
-    pool: Name,
-    user: Name,
-    floor: u64,
-) -> Result<u64, Refusal>
+pub fn ask(definitions: &Definitions, pool: Name, user: Name, floor: u64) -> Result<u64, Refusal>
     requires { IsSound definitions.now }
     ensures ok { IfOk result (λ bytes. bytes ≡ ask definitions.now (pool_row definitions.now pool) user floor) }
     ensures most { IfOk result (λ bytes. bytes ≤ 2 * MEMORY_MOST) }
-    ensures fits { OnOk result (is_too_large definitions.now (pool_row definitions.now pool) user floor ≡ false) }
+    ensures least { (least_cap definitions.now (pool_row definitions.now pool) user).bytes ≤ 2 * MEMORY_MOST }
     ensures err { IfErr result (λ refusal. refusal ≡ too_large definitions.now (pool_row definitions.now pool) user floor) }
-    ensures large { OnErr result (is_too_large definitions.now (pool_row definitions.now pool) user floor ≡ true) }
+    ensures large { IsErr result ↔ IsTrue (is_too_large definitions.now (pool_row definitions.now pool) user floor) }
 {
     let row = pool_row(definitions, pool);
     let least = least_cap(definitions, &row, user);
@@ -78,3 +72,6 @@ pub fn ask(
     let wanted = row_budget(definitions, &row).max(floor);
     Ok(wanted.min(least.bytes))
 }
+
+#[cfg(test)]
+mod tests;
