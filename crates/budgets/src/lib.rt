@@ -58,10 +58,12 @@ pub fn cap(definitions: &Definitions, pool: Name) -> u64
 /// What a query of this user with this floor asks for in the pool. A floor above the least cap is refused.
 pub fn ask(definitions: &Definitions, pool: Name, user: Name, floor: u64) -> Result<u64, Refusal>
     requires { IsSound definitions.now }
-    ensures ok { IfOk result (λ bytes. bytes ≡ ask definitions.now (pool_row definitions.now pool) user floor) }
+    ensures ok { IfOk result (λ bytes.
+        bytes ≡ ask definitions.now (pool_row definitions.now pool) user floor) }
     ensures most { IfOk result (λ bytes. bytes ≤ 2 * MEMORY_MOST) }
     ensures least { (least_cap definitions.now (pool_row definitions.now pool) user).bytes ≤ 2 * MEMORY_MOST }
-    ensures err { IfErr result (λ refusal. refusal ≡ too_large definitions.now (pool_row definitions.now pool) user floor) }
+    ensures err { IfErr result (λ refusal.
+        refusal ≡ too_large definitions.now (pool_row definitions.now pool) user floor) }
     ensures large { IsErr result ↔ IsTrue (is_too_large definitions.now (pool_row definitions.now pool) user floor) }
 {
     let row = pool_row(definitions, pool);
