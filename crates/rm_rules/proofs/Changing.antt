@@ -23,7 +23,7 @@ use Rattle.rm_rules.specs.declared.state.Waiter.{Waiter}
 use Rattle.rm_rules.specs.declared.state.Runner.{Runner}
 use Rattle.rm_rules.specs.Definitions.{user_called, pool_row, usage}
 use Rattle.rm_rules.specs.Budget.{is_too_large}
-use Rattle.rm_rules.specs.State.{State, session_called, session_of, if_opened_by, session_pool, phase_of, with_phase, with_choice, without_runner, is_idle, is_active, is_waiting, is_running, live_queries, active_queries, counted_entries}
+use Rattle.rm_rules.specs.State.{State, session_called, session_of, if_opened_by, session_pool, phase_of, with_phase, without_runner, is_idle, is_active, is_waiting, is_running, live_queries, active_queries, counted_entries}
 use Rattle.rm_rules.specs.Accounting.{used, grant_in, reserves}
 use Rattle.rm_rules.specs.Acceptance.{accepted}
 use Rattle.rm_rules.specs.Change.{Says, Tells, Change, change, quiet, defining_to, defining, defined, opening, opened, new_session, has_chosen, choosing, chosen, submitting, submitted, new_waiter, polling_in, polling, collected, finishing, finishing_with, finished, runner_of, is_journal_full}
@@ -121,7 +121,7 @@ idle-phase phase.Waiting h = absurd (false≢true h)
 idle-phase phase.Running h = absurd (false≢true h)
 idle-phase (phase.Ended end) h = absurd (false≢true h)
 
-running-phase : (p : Phase) → is_running p ≡ true → (is_waiting p ≡ false) × (is_idle p ≡ false)
+pub running-phase : (p : Phase) → is_running p ≡ true → (is_waiting p ≡ false) × (is_idle p ≡ false)
 running-phase phase.Idle h = absurd (false≢true h)
 running-phase phase.Waiting h = absurd (false≢true h)
 running-phase phase.Running h = (refl, refl)
@@ -337,15 +337,15 @@ kept-defined s statement new formed h accepts =
 -- SetPool: nothing changes, or the choice of a session
 pub data Chooses (s : State) (o : Option Session) (pool : Name) : Change → Type 0 where
   stays : Chooses s o pool (quiet s (Says reply.Set))
-  changes : (x : Session) → o ≡ Some x → has_pool s.definitions pool ≡ true
+  changes : (x : Session) → o ≡ Some x → has_chosen x pool ≡ false → has_pool s.definitions pool ≡ true
       → counted_entries s.journal + 1 + ENTRIES_A_QUERY * live_queries s.sessions + ENTRIES_A_SESSION * length s.sessions ≤ s.room
       → Chooses s o pool (chosen s x pool)
 
-chosen-turn : (s : State) (x : Session) (pool : Name) (c : Change) (b : Bool) → has_pool s.definitions pool ≡ true
+chosen-turn : (s : State) (x : Session) (pool : Name) (c : Change) (b : Bool) → has_chosen x pool ≡ b → has_pool s.definitions pool ≡ true
     → counted_entries s.journal + 1 + ENTRIES_A_QUERY * live_queries s.sessions + ENTRIES_A_SESSION * length s.sessions ≤ s.room
     → cond {A = Result Change Refusal} b (Ok (quiet s (Says reply.Set))) (Ok (chosen s x pool)) ≡ Ok c → Chooses s (Some x) pool c
-chosen-turn s x pool c true there room h = let is : quiet s (Says reply.Set) ≡ c = let e = h in cc in subst (Chooses s (Some x) pool) is stays
-chosen-turn s x pool c false there room h = let is : chosen s x pool ≡ c = let e = h in cc in subst (Chooses s (Some x) pool) is (changes x refl there room)
+chosen-turn s x pool c true e there room h = let is : quiet s (Says reply.Set) ≡ c = let k = h in cc in subst (Chooses s (Some x) pool) is stays
+chosen-turn s x pool c false e there room h = let is : chosen s x pool ≡ c = let k = h in cc in subst (Chooses s (Some x) pool) is (changes x refl e there room)
 
 pub choosing-ok : (s : State) (o : Option Session) (pool : Name) (c : Change) → choosing s o pool ≡ Ok c → Chooses s o pool c
 choosing-ok s None pool c h = absurd (cc)
@@ -353,7 +353,7 @@ choosing-ok s (Some x) pool c h =
     let there = unless_ok (not (has_pool s.definitions pool)) _ _ c h in
     let may = unless_ok (not (usage s.definitions x.user pool)) _ _ c there.1 in
     let room = unless_ok (is_journal_full s (live_queries s.sessions) (length s.sessions)) _ _ c may.1 in
-    chosen-turn s x pool c (has_chosen x pool) (not_true (has_pool s.definitions pool) there.0) (not_below _ _ room.0) room.1
+    chosen-turn s x pool c (has_chosen x pool) refl (not_true (has_pool s.definitions pool) there.0) (not_below _ _ room.0) room.1
 
 pub kept-chosen : (s : State) (x : Session) (pool : Name) → AreKept 0 0 s → has_pool s.definitions pool ≡ true
     → counted_entries s.journal + 1 + ENTRIES_A_QUERY * live_queries s.sessions + ENTRIES_A_SESSION * length s.sessions ≤ s.room
@@ -456,7 +456,7 @@ kept-collected s x end h found ended =
 pub data IsChange (s : State) (seat : ℕ) : Event → Change → Type 0 where
   defines : (statement : Statement) (new : Definitions) → accepted s.definitions statement ≡ Ok new → IsChange s seat (Define statement) (defined s new)
   opens : (user : Name) → Opens s seat user (opened s seat user) → IsChange s seat (Open user) (opened s seat user)
-  chooses : (session : ℕ) (pool : Name) (x : Session) → session_of s seat session ≡ Some x → has_pool s.definitions pool ≡ true
+  chooses : (session : ℕ) (pool : Name) (x : Session) → session_of s seat session ≡ Some x → has_chosen x pool ≡ false → has_pool s.definitions pool ≡ true
       → counted_entries s.journal + 1 + ENTRIES_A_QUERY * live_queries s.sessions + ENTRIES_A_SESSION * length s.sessions ≤ s.room
       → IsChange s seat (SetPool session pool) (chosen s x pool)
   submits : (session floor : ℕ) (x : Session) → session_of s seat session ≡ Some x → is_idle x.phase ≡ true
@@ -470,7 +470,7 @@ pub data IsChange (s : State) (seat : ℕ) : Event → Change → Type 0 where
 choose-changes : (s : State) (seat session : ℕ) (pool : Name) (c : Change) → Chooses s (session_of s seat session) pool c → c.changed ≡ true
     → IsChange s seat (SetPool session pool) c
 choose-changes s seat session pool _ stays loud = absurd (false≢true loud)
-choose-changes s seat session pool _ (changes x found there room) loud = chooses session pool x found there room
+choose-changes s seat session pool _ (changes x found other there room) loud = chooses session pool x found other there room
 
 poll-changes : (s : State) (seat session : ℕ) (c : Change) → Polls s (session_of s seat session) c → c.changed ≡ true → IsChange s seat (Poll session) c
 poll-changes s seat session _ (tells x found) loud = absurd (false≢true loud)
@@ -496,7 +496,7 @@ pub kept-changed : (s : State) (seat : ℕ) (event : Event) (c : Change) → IsF
     → AreHeld (counted_for c.answer) (defining_for c.answer) c.state
 kept-changed s seat _ _ formed h (defines statement new accepts) = kept-defined s statement new formed h accepts
 kept-changed s seat _ _ formed h (opens user o) = kept-opened s seat user (opened s seat user) h o
-kept-changed s seat _ _ formed h (chooses session pool x found there room) = kept-chosen s x pool h there room
+kept-changed s seat _ _ formed h (chooses session pool x found other there room) = kept-chosen s x pool h there room
 kept-changed s seat _ _ formed h (submits session floor x found idle room) = kept-submitted s x floor h (session_of-found s seat session x found) idle room
 kept-changed s seat _ _ formed h (collects session x end found ended) = kept-collected s x end h (session_of-found s seat session x found) ended
 kept-changed s seat _ _ formed h (finishes session x r found running runs) = kept-finished s x r h (session_of-found s seat session x found) running runs
@@ -511,7 +511,7 @@ pub record LeavesRest (s t : State) : Type 0 where
 pub rest-changed : (s : State) (seat : ℕ) (event : Event) (c : Change) → IsChange s seat event c → LeavesRest s c.state
 rest-changed s seat _ _ (defines statement new accepts) = record { journal = refl; clock = refl; room = refl; force = refl }
 rest-changed s seat _ _ (opens user o) = record { journal = refl; clock = refl; room = refl; force = refl }
-rest-changed s seat _ _ (chooses session pool x found there room) = record { journal = refl; clock = refl; room = refl; force = refl }
+rest-changed s seat _ _ (chooses session pool x found other there room) = record { journal = refl; clock = refl; room = refl; force = refl }
 rest-changed s seat _ _ (submits session floor x found idle room) = record { journal = refl; clock = refl; room = refl; force = refl }
 rest-changed s seat _ _ (collects session x end found ended) = record { journal = refl; clock = refl; room = refl; force = refl }
 rest-changed s seat _ _ (finishes session x r found running runs) = record { journal = refl; clock = refl; room = refl; force = refl }

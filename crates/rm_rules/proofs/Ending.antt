@@ -1,17 +1,16 @@
 -- What a waiting query that ends in the queue leaves as it was.
-use Rattle.std.proofs.Common.{◌≡◌, ℕ, ◌+◌, ◌≤◌, Bool, true, false, not, cond, eqb, List, [], ◌∷◌, length, Some, Option, refl, ap, ◌∙◌, subst, arith, count_by}
-use Rattle.std.specs.List.{find, list_all}
-use Rattle.std.proofs.lemmas.Bool.{eqb-true, eq-eqb}
+use Rattle.std.proofs.Common.{◌≡◌, ℕ, ◌+◌, Bool, true, false, not, cond, eqb, List, [], ◌∷◌, length, Some, refl, ap, ◌∙◌, subst, arith, count_by}
+use Rattle.std.specs.List.{find}
+use Rattle.std.proofs.lemmas.Bool.{eqb-true}
 use Rattle.rm_base.specs.declared.entry.EndCounts.{EndCounts}
 use Rattle.rm_base.specs.declared.name.Name.{Name}
 use Rattle.rm_base.specs.declared.reply.End.{End}
 use Rattle.rm_base.specs.declared.rows.PoolRow.{PoolRow}
 use Rattle.rm_base.specs.Name.{same_name}
-use Rattle.rm_rules.specs.declared.state.Phase.{Phase}
 use Rattle.rm_rules.specs.declared.state.Phase.TheVariants as phase
 use Rattle.rm_rules.specs.declared.state.Waiter.{Waiter}
 use Rattle.rm_rules.specs.declared.state.Runner.{Runner}
-use Rattle.rm_rules.specs.State.{State, phase_of, with_phase, with_one_end, with_end, without_waiter, is_idle, is_active, is_waiting, is_running, live_queries, active_queries}
+use Rattle.rm_rules.specs.State.{State, phase_of, with_phase, with_one_end, with_end, without_waiter, is_idle, is_active, is_waiting, is_running, active_queries}
 use Rattle.rm_rules.specs.Settle.{ended_as}
 use Rattle.rm_rules.specs.Sound.{has_pool}
 use Rattle.rm_rules.specs.Healthy.{IsHeld, AreInPhase, HasRoom, one_if}

@@ -6,10 +6,10 @@ use Rattle.rm_rules.specs.declared.state.Runner.{Runner}
 use Rattle.rm_rules.specs.Definitions.{pool_row, total}
 use Rattle.rm_rules.specs.Budget.{is_too_large}
 use Rattle.rm_rules.specs.State.{State}
-use Rattle.rm_rules.specs.Admission.{first_entitled, admitted, admission, started}
+use Rattle.rm_rules.specs.Admission.{first_entitled, admitted, started}
 use Rattle.rm_rules.specs.Shuffle.{shuffled}
 use Rattle.rm_rules.specs.Settle.{ended_as, first_too_large, too_large_end, ended_too_large, without_too_large, settled}
-use Rattle.rm_rules.specs.Healthy.{IsHeld, AreInPhase, HasRoom}
+use Rattle.rm_rules.specs.Healthy.{IsHeld}
 use Rattle.rm_rules.proofs.Queue.{IsAmong, found_among}
 use Rattle.rm_rules.proofs.Moving.{AreKept, AreHeld, kept-admitted, repeated-keeps}
 use Rattle.rm_rules.proofs.Ending.{held-ended, in_phase-ended, room-ended}
