@@ -30,7 +30,7 @@ use Rattle.rm_rules.specs.Change.{Says, Tells, Change, change, quiet, defining_t
 use Rattle.rm_rules.specs.Step.{IsFormed}
 use Rattle.rm_rules.specs.Sound.{has_pool}
 use Rattle.rm_base.specs.Ranges.{passes_if_set}
-use Rattle.rm_rules.specs.Healthy.{IsHeld, AreInPhase, counted_for, defining_for, one_if}
+use Rattle.rm_rules.specs.Healthy.{IsHeld, AreInPhase, AreNumbered, counted_for, defining_for, one_if}
 use Rattle.rm_rules.proofs.Taken.{sum_without, length_without, found_passes, all_without, all_push, all_found, not_true}
 use Rattle.rm_rules.proofs.Phases.{phase_of-with_other, phase_of-with_same, length-with, live-with, active-with, phase_of-found, phase_of-push, live-push, active-push, phase_of-choice, length-choice, count-choice}
 use Rattle.rm_rules.proofs.Bytes.{debts-less}
@@ -89,6 +89,7 @@ kept-opened s seat user c h o =
         active = h.in_phase.active ∙ sym (active-push s.sessions y refl);
         few = omega (arith, o.few, length_push s.sessions y);
       };
+      numbered = record { once = h.numbered.once; given = h.numbered.given };
       room = record {
         kept = omega (arith, o.room, live-push s.sessions y refl, length_push s.sessions y);
         defined = h.room.defined;
@@ -186,6 +187,23 @@ submit-turn s x w n false differs of h found idle =
       omega (arith, h.runs n, ap (λ p. one_if (is_running p)) now),
     )
 
+-- how often a number is given, with one more of the next number
+counts-turn : (last n q a b c : ℕ) (same : Bool) → eqb q n ≡ same → q ≡ last + 1 → a ≡ b + cond same 1 0 → b + c ≤ 1 → (last < n → b + c ≡ 0)
+    → (a + c ≤ 1) × (last + 1 < n → a + c ≡ 0)
+counts-turn last n q a b c true e next more once given =
+    let is : q ≡ n = eqb-true q n e in
+    let none : b + c ≡ 0 = given (omega (arith, is, next)) in
+    (omega (arith, more, none), λ above. absurd (omega (arith, above, is, next)))
+counts-turn last n q a b c false e next more once given = (omega (arith, more, once), λ above. let none : b + c ≡ 0 = given (omega (arith, above)) in omega (arith, more, none))
+
+pub numbered-submitted : (s : State) (w : Waiter) → AreNumbered s → w.query ≡ s.last_query + 1
+    → (let t : State = record s { waiting = s.waiting ++ w ∷ []; last_query = s.last_query + 1 } in AreNumbered t)
+numbered-submitted s w h next =
+    let turn = λ (n : ℕ).
+    counts-turn s.last_query n w.query (count_by (λ (z : Waiter). eqb z.query n) (s.waiting ++ w ∷ [])) (count_by (λ (z : Waiter). eqb z.query n) s.waiting)
+    (count_by (λ (r : Runner). eqb r.query n) s.running) (eqb w.query n) refl next (sum_by_push (λ (z : Waiter). cond (eqb z.query n) 1 0) s.waiting w) (h.once n) (h.given n) in
+    record { once = λ n. (turn n).0; given = λ n above. (turn n).1 above }
+
 pub kept-submitted : (s : State) (x : Session) (floor : ℕ) → AreKept 0 0 s → session_called s.sessions x.number ≡ Some x → is_idle x.phase ≡ true
     → counted_entries s.journal + 1 + ENTRIES_A_QUERY * (live_queries s.sessions + 1) + ENTRIES_A_SESSION * length s.sessions ≤ s.room
     → AreHeld 1 0 (submitted s x (session_pool s.definitions x) floor).state
@@ -216,6 +234,7 @@ kept-submitted s x floor h found idle room =
         active = omega (arith, h.in_phase.active, active, length_push s.waiting w);
         few = omega (arith, h.in_phase.few, length-with x.number phase.Waiting s.sessions);
       };
+      numbered = let t = numbered-submitted s w h.numbered refl in record { once = t.once; given = t.given };
       room = record {
         kept = omega (arith, room, live, length-with x.number phase.Waiting s.sessions);
         defined = h.room.defined;
@@ -265,6 +284,13 @@ finish-turn s x r n false differs h found running runs =
       omega (arith, sum_without (λ (z : Runner). cond (eqb z.session n) 1 0) (λ z. eqb z.session x.number) r s.running runs, taken, h.runs n, ap (λ p. one_if (is_running p)) now),
     )
 
+-- a query that ends leaves its number to nobody
+numbered-finished : (s : State) (x : Session) (r : Runner) → AreNumbered s → runner_of s.running x.number ≡ Some r
+    → (let t : State = record s { running = without_runner x.number s.running } in AreNumbered t)
+numbered-finished s x r h runs =
+    let less = λ (n : ℕ). sum_without (λ (z : Runner). cond (eqb z.query n) 1 0) (λ z. eqb z.session x.number) r s.running runs in
+    record { once = λ n. omega (arith, less n, h.once n); given = λ n above. omega (arith, less n, h.given n above) }
+
 pub kept-finished : (s : State) (x : Session) (r : Runner) → AreKept 0 0 s → session_called s.sessions x.number ≡ Some x → is_running x.phase ≡ true
     → runner_of s.running x.number ≡ Some r → AreHeld 1 0 (finished s x r).state
 kept-finished s x r h found running runs =
@@ -295,6 +321,7 @@ kept-finished s x r h found running runs =
         active = omega (arith, h.in_phase.active, active, length_without (λ (z : Runner). eqb z.session x.number) r s.running runs);
         few = omega (arith, h.in_phase.few, length-with x.number phase.Idle s.sessions);
       };
+      numbered = let t = numbered-finished s x r h.numbered runs in record { once = t.once; given = t.given };
       room = record {
         kept = omega (arith, h.room.kept, live, length-with x.number phase.Idle s.sessions);
         defined = h.room.defined;
@@ -326,6 +353,7 @@ kept-defined s statement new formed h accepts =
       sound = accepted-sound s.definitions statement new h.sound formed.1 formed.0 accepts;
       held = subst (λ d. IsHeld (defined s d).state) row.1 (held-defined s row.0 h.sound h.covered.held);
       in_phase = record { waits = h.in_phase.waits; runs = h.in_phase.runs; active = h.in_phase.active; few = h.in_phase.few };
+      numbered = record { once = h.numbered.once; given = h.numbered.given };
       room = record {
         kept = h.room.kept;
         defined = omega (arith, h.room.defined, counted.changes);
@@ -376,6 +404,7 @@ kept-chosen s x pool h there room = record {
     active = h.in_phase.active ∙ sym (count-choice is_active x.number pool s.sessions);
     few = omega (arith, h.in_phase.few, length-choice x.number pool s.sessions);
   };
+  numbered = record { once = h.numbered.once; given = h.numbered.given };
   room = record {
     kept = omega (arith, room, count-choice (λ p. not (is_idle p)) x.number pool s.sessions, length-choice x.number pool s.sessions);
     defined = h.room.defined;
@@ -444,6 +473,7 @@ kept-collected s x end h found ended =
         active = h.in_phase.active ∙ sym active;
         few = omega (arith, h.in_phase.few, length-with x.number phase.Idle s.sessions);
       };
+      numbered = record { once = h.numbered.once; given = h.numbered.given };
       room = record {
         kept = omega (arith, h.room.kept, live, length-with x.number phase.Idle s.sessions);
         defined = h.room.defined;

@@ -13,7 +13,7 @@ use Rattle.rm_rules.specs.declared.state.Runner.{Runner}
 use Rattle.rm_rules.specs.State.{State, phase_of, with_phase, with_one_end, with_end, without_waiter, is_idle, is_active, is_waiting, is_running, active_queries}
 use Rattle.rm_rules.specs.Settle.{ended_as}
 use Rattle.rm_rules.specs.Sound.{has_pool}
-use Rattle.rm_rules.specs.Healthy.{IsHeld, AreInPhase, HasRoom, one_if}
+use Rattle.rm_rules.specs.Healthy.{IsHeld, AreInPhase, AreNumbered, HasRoom, one_if}
 use Rattle.rm_rules.proofs.Taken.{sum_without, length_without, found_passes, all_without}
 use Rattle.rm_rules.proofs.Phases.{phase_of-with_other, phase_of-with_same, length-with, live-with, active-with, open_if_live}
 use Rattle.rm_rules.proofs.Known.{chosen-with}
@@ -81,6 +81,13 @@ in_phase-ended end s w h among =
       active = omega (arith, h.active, active, length_without (λ (x : Waiter). eqb x.session w.session) found.0 s.waiting found.1);
       few = omega (arith, h.few, length-with w.session (phase.Ended end) s.sessions);
     }
+
+-- a query that ends leaves its number to nobody
+pub numbered-ended : (end : End) (s : State) (w : Waiter) → AreNumbered s → IsAmong w s.waiting → AreNumbered (ended_as end s w)
+numbered-ended end s w h among =
+    let found = waiter_found s w among in
+    let less = λ (n : ℕ). sum_without (λ (x : Waiter). cond (eqb x.query n) 1 0) (λ x. eqb x.session w.session) found.0 s.waiting found.1 in
+    record { once = λ n. omega (arith, less n, h.once n); given = λ n above. omega (arith, less n, h.given n above) }
 
 -- an end that nobody has collected is live
 pub room-ended : (k d : ℕ) (end : End) (s : State) (w : Waiter) → AreInPhase s → HasRoom k d s → IsAmong w s.waiting → HasRoom k d (ended_as end s w)

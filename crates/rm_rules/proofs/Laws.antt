@@ -106,6 +106,7 @@ kept-recorded s e answer is h = record {
     full_above_total = h.covered.full_above_total;
   };
   in_phase = record { waits = h.in_phase.waits; runs = h.in_phase.runs; active = h.in_phase.active; few = h.in_phase.few };
+  numbered = record { once = h.numbered.once; given = h.numbered.given };
   room = kept-turn s e (is_defining answer) is h;
 }
 
@@ -128,14 +129,15 @@ kept-moved s at h = record {
     full_above_total = h.covered.full_above_total;
   };
   in_phase = record { waits = h.in_phase.waits; runs = h.in_phase.runs; active = h.in_phase.active; few = h.in_phase.few };
+  numbered = record { once = h.numbered.once; given = h.numbered.given };
   room = record { kept = h.room.kept; defined = h.room.defined; sessions = h.room.sessions; queries = h.room.queries };
 }
 
 from_healthy : (s : State) → IsHealthy s → AreKept 0 0 s
-from_healthy s h = record { sound = h.sound; covered = h.covered; in_phase = h.in_phase; room = h.room }
+from_healthy s h = record { sound = h.sound; covered = h.covered; in_phase = h.in_phase; numbered = h.numbered; room = h.room }
 
 to_healthy : (s : State) → AreKept 0 0 s → IsHealthy s
-to_healthy s h = record { sound = h.sound; covered = h.covered; in_phase = h.in_phase; room = h.room }
+to_healthy s h = record { sound = h.sound; covered = h.covered; in_phase = h.in_phase; numbered = h.numbered; room = h.room }
 
 pub moved-facts : (s : State) (at : ℕ) → IsHealthy s → IsHealthy (moved_to s at)
 moved-facts s at h = to_healthy (moved_to s at) (kept-moved s at (from_healthy s h))
@@ -143,7 +145,7 @@ moved-facts s at h = to_healthy (moved_to s at) (kept-moved s at (from_healthy s
 pub changed-facts : (s : State) (seat : ℕ) (event : Event) (c : Change) → IsHealthy s → IsFormed event → change s seat event ≡ Ok c → c.changed ≡ true → IsUnsettled c.answer c.state
 changed-facts s seat event c h formed ok loud =
     let k = kept-changed s seat event c formed (from_healthy s h) (changed-is s seat event c ok loud) in
-    record { sound = k.sound; held = k.held; in_phase = k.in_phase; room = k.room }
+    record { sound = k.sound; held = k.held; in_phase = k.in_phase; numbered = k.numbered; room = k.room }
 
 -- a change that settles and is noted
 accepted-kept : (s : State) (seat : ℕ) (event : Event) (c : Change) → IsChange s seat event c → IsFormed event → AreKept 0 0 s
@@ -203,6 +205,7 @@ healthy-start d room sound = record {
     full_above_total = λ above. absurd (omega (arith, above));
   };
   in_phase = record { waits = λ n. refl; runs = λ n. refl; active = refl; few = omega arith };
+  numbered = record { once = λ n. omega arith; given = λ n above. refl };
   room = record { kept = omega arith; defined = omega arith; sessions = omega arith; queries = omega arith };
 }
 
