@@ -6,6 +6,7 @@ use rm_base::definitions::Definitions;
 use rm_base::entry::{Answered, Entry};
 use rm_base::event::Event;
 use rm_base::moment::Moment;
+use rm_base::snapshot::Looked;
 use std::alloc::{AllocError, Global};
 use std::marker::Model;
 
@@ -33,6 +34,7 @@ impl Desk {
     ghost use Rattle.rm_rules.specs.Healthy.{IsHealthy};
     ghost use Rattle.rm_rules.specs.Conserved.{ConservedAfterEach};
     ghost use Rattle.machine.specs.Desk.{DeskState, beginning};
+    ghost use Rattle.machine.specs.Looked.{looked_of};
 
     /// A desk with nobody there yet.
     pub fn new(alloc: Global, definitions: Definitions, room: u32) -> Result<Desk, AllocError>
@@ -73,6 +75,16 @@ impl Desk {
         ensures sound { IsSound result.now }
     {
         self.machine.definitions()
+    }
+
+    /// The state as it stands, with the journal's length.
+    pub fn look(&self, alloc: Global) -> Result<Looked, AllocError>
+        ensures { IfOk result (λ looked. looked ≡ looked_of self.now.state) }
+    {
+        Ok(Looked {
+            snapshot: self.machine.look(alloc)?,
+            place: self.machine.entries().len() as u64,
+        })
     }
 }
 

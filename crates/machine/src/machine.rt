@@ -23,6 +23,7 @@ mod choosing;
 mod defining;
 mod events;
 mod fit;
+mod look;
 mod polling;
 mod settle;
 mod shuffle;

@@ -38,7 +38,7 @@ impl Machine {
     }
 
     /// The pool in which the session's next query would wait.
-    fn session_pool(&self, x: &Session) -> Name
+    pub fn session_pool(&self, x: &Session) -> Name
         ensures { result ≡ session_pool self.now.definitions x.now }
     {
         match x.pool {

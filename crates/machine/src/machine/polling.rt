@@ -19,17 +19,14 @@ impl Machine {
         ensures err { IfErr result (λ refusal. polling_in self.old x.now x.now.phase ≡ Err refusal) }
         ensures kept { OnErr result (self.new ≡ self.old) }
     {
-        let told = Told::Tells(x.number);
+        let quiet = Done {
+            told: Told::Tells(x.number),
+            changed: false,
+        };
         match x.phase {
             Phase::Idle => Err(Refusal::NotLive),
-            Phase::Waiting => Ok(Done {
-                told,
-                changed: false,
-            }),
-            Phase::Running => Ok(Done {
-                told,
-                changed: false,
-            }),
+            Phase::Waiting => Ok(quiet),
+            Phase::Running => Ok(quiet),
             Phase::Ended(end) => {
                 set_phase(&mut self.sessions, x.number, Phase::Idle);
                 Ok(Done {

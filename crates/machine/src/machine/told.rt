@@ -1,9 +1,9 @@
 //! What a session is told of its query.
-ghost use Rattle.std.specs.Prelude.{◌≡◌, ◌≤◌, ◌==◌, not, length, take_while};
+ghost use Rattle.std.specs.Prelude.{◌≡◌, ◌≤◌, ◌==◌, not, length, take, take_while};
 ghost use Rattle.rm_base.specs.declared.limits.TheConstants.{SESSIONS_MOST};
 
 use super::Machine;
-use crate::accounts::used_before;
+use crate::accounts::{used, used_before};
 use crate::sessions::{place_of, runner_of, session_called, waiter_of};
 use crate::told::Told;
 use crate::users::is_general;
@@ -14,11 +14,11 @@ use rm_base::reply::Reply;
 use rm_rules::state::{Phase, Runner};
 
 impl Machine {
-    ghost use Rattle.rm_rules.specs.Accounting.{used};
+    ghost use Rattle.rm_rules.specs.Accounting.{used, account_behind};
     ghost use Rattle.rm_rules.specs.Change.{told_running, told_waiting, told_in_phase, told, reply_of, runner_of, waiter_of};
     ghost use Rattle.rm_rules.specs.Sound.{IsSound};
     ghost use Rattle.rm_rules.specs.Healthy.{IsHeld};
-    ghost use Rattle.machine.specs.Answers.{answer_of, account_of};
+    ghost use Rattle.machine.specs.Answers.{answer_of, account_by, account_of};
 
     /// What the pool's queries hold that run before this session's query.
     fn used_before(&self, session: u32, pool: Name) -> u64
@@ -29,18 +29,31 @@ impl Machine {
         used_before(&self.running, session, pool)
     }
 
-    /// The bytes of its own pool that the running query holds.
-    fn own_bytes(&self, r: &Runner, session: u32) -> u64
+    /// The bytes of its own pool that the running query holds, where those before it hold so much.
+    fn own_bytes(&self, r: &Runner, before: u64) -> u64
         requires sound { IsSound self.now.definitions }
         requires held { IsHeld self.now }
-        ensures value { result ≡ (account_of self.now session r.now).own }
+        ensures value { result ≡ (account_by self.now before r.now).own }
         ensures within { result ≤ r.now.grant }
     {
         if is_general(r.pool) {
             return r.grant;
         }
-        let before = self.used_before(session, r.pool);
         r.grant.min(self.own_of(r.pool).saturating_sub(before))
+    }
+
+    /// The account of the running query, where those before it in its pool hold so much.
+    fn account_by(&self, r: &Runner, before: u64) -> Account
+        requires sound { IsSound self.now.definitions }
+        requires held { IsHeld self.now }
+        ensures { result ≡ account_by self.now before r.now }
+    {
+        let own = self.own_bytes(r, before);
+        Account {
+            pool: r.pool,
+            own,
+            borrowed: r.grant - own,
+        }
     }
 
     /// The account of this session's running query.
@@ -49,12 +62,17 @@ impl Machine {
         requires held { IsHeld self.now }
         ensures { result ≡ account_of self.now session r.now }
     {
-        let own = self.own_bytes(r, session);
-        Account {
-            pool: r.pool,
-            own,
-            borrowed: r.grant - own,
-        }
+        self.account_by(r, self.used_before(session, r.pool))
+    }
+
+    /// The account of the query that runs behind so many others.
+    pub fn account_at(&self, r: &Runner, place: usize) -> Account
+        requires sound { IsSound self.now.definitions }
+        requires held { IsHeld self.now }
+        requires within { place ≤ length self.now.running }
+        ensures { result ≡ account_behind self.now (take place self.now.running) r.now }
+    {
+        self.account_by(r, used(&self.running[..place], r.pool))
     }
 
     fn told_running(&self, session: u32) -> Reply

@@ -1,0 +1,139 @@
+//! Snapshots.
+ghost use Rattle.std.specs.Prelude.{◌≡◌, ◌≤◌, map, take, length, IfOk};
+ghost use Rattle.std.specs.List.{zip};
+ghost use Rattle.machine.specs.Looked.{condition_of, waiting_seen};
+
+use super::Machine;
+use rm_base::entry::{EndCounts, MoveSeen};
+use rm_base::listed::Listed;
+use rm_base::snapshot::{Condition, RunningSeen, SessionSeen, Snapshot, WaitingSeen};
+use rm_rules::state::{Phase, Runner, Session, Waiter};
+use std::alloc::{AllocError, Global};
+
+/// What a query is doing, without how it ended.
+fn condition_of(phase: Phase) -> Condition
+    ensures { result ≡ condition_of phase }
+{
+    match phase {
+        Phase::Idle => Condition::Idle,
+        Phase::Waiting => Condition::Waiting,
+        Phase::Running => Condition::Running,
+        Phase::Ended(_) => Condition::Ended,
+    }
+}
+
+fn waiting_seen(w: &Waiter) -> WaitingSeen
+    ensures { result ≡ waiting_seen w.now }
+{
+    WaitingSeen {
+        query: w.query,
+        session: w.session,
+        pool: w.pool,
+        queued: w.queued,
+    }
+}
+
+fn queue_seen(alloc: Global, waiting: &[Waiter]) -> Result<Vec<WaitingSeen>, AllocError>
+    ensures { IfOk result (λ seen. seen.items ≡ map waiting_seen waiting.now) }
+{
+    let mut seen = Vec::with_capacity(alloc, waiting.len())?;
+    for w in waiting {
+        seen.push_reserved(waiting_seen(w));
+    }
+    Ok(seen)
+}
+
+fn sizes_seen(alloc: Global, actual: &[u64]) -> Result<Vec<u64>, AllocError>
+    ensures { IfOk result (λ seen. seen.items ≡ actual.now) }
+{
+    actual.to_vec(alloc)
+}
+
+fn counters_seen(alloc: Global, counters: &[EndCounts]) -> Result<Vec<EndCounts>, AllocError>
+    ensures { IfOk result (λ seen. seen.items ≡ counters.now) }
+{
+    counters.to_vec(alloc)
+}
+
+fn moves_seen(alloc: Global, moves: &[MoveSeen]) -> Result<Vec<MoveSeen>, AllocError>
+    ensures { IfOk result (λ seen. seen.items ≡ moves.now) }
+{
+    moves.to_vec(alloc)
+}
+
+impl Machine {
+    ghost use Rattle.rm_rules.specs.Accounting.{accounts, account_behind};
+    ghost use Rattle.rm_rules.specs.Sound.{IsSound};
+    ghost use Rattle.rm_rules.specs.Healthy.{IsHeld};
+    ghost use Rattle.machine.specs.Looked.{session_seen, running_seen, snapshot_of};
+
+    fn session_seen(&self, x: &Session) -> SessionSeen
+        ensures { result ≡ session_seen self.now.definitions x.now }
+    {
+        SessionSeen {
+            session: x.number,
+            user: x.user,
+            pool: self.session_pool(x),
+            cap_ms: x.cap_ms,
+            condition: condition_of(x.phase),
+        }
+    }
+
+    fn sessions_seen(&self, alloc: Global) -> Result<Vec<SessionSeen>, AllocError>
+        ensures { IfOk result (λ seen.
+            seen.items ≡ map (session_seen self.now.definitions) self.now.sessions) }
+    {
+        let mut seen = Vec::with_capacity(alloc, self.sessions.len())?;
+        for x in &self.sessions {
+            seen.push_reserved(self.session_seen(x));
+        }
+        Ok(seen)
+    }
+
+    /// The query that runs behind so many others.
+    fn running_seen(&self, r: &Runner, place: usize) -> RunningSeen
+        requires sound { IsSound self.now.definitions }
+        requires held { IsHeld self.now }
+        requires within { place ≤ length self.now.running }
+        ensures { result ≡ running_seen (r.now, account_behind self.now (take place self.now.running) r.now) }
+    {
+        RunningSeen {
+            query: r.query,
+            session: r.session,
+            account: self.account_at(r, place),
+            start: r.start,
+            moves: r.moves,
+        }
+    }
+
+    fn runs_seen(&self, alloc: Global) -> Result<Vec<RunningSeen>, AllocError>
+        requires sound { IsSound self.now.definitions }
+        requires held { IsHeld self.now }
+        ensures { IfOk result (λ seen.
+            seen.items ≡ map running_seen (zip self.now.running (accounts self.now))) }
+    {
+        let mut seen = Vec::with_capacity(alloc, self.running.len())?;
+        for (i, r) in self.running.iter().enumerate() {
+            seen.push_reserved(self.running_seen(r, i));
+        }
+        Ok(seen)
+    }
+
+    /// The state as it stands.
+    pub fn look(&self, alloc: Global) -> Result<Snapshot, AllocError>
+        requires sound { IsSound self.now.definitions }
+        requires held { IsHeld self.now }
+        ensures { IfOk result (λ snapshot. snapshot ≡ snapshot_of self.now) }
+    {
+        Ok(Snapshot {
+            definitions: self.definitions.copy(alloc)?,
+            in_force: self.in_force,
+            actual: Listed::of(sizes_seen(alloc, &self.actual)?),
+            sessions: Listed::of(self.sessions_seen(alloc)?),
+            running: Listed::of(self.runs_seen(alloc)?),
+            waiting: Listed::of(queue_seen(alloc, &self.waiting)?),
+            counters: Listed::of(counters_seen(alloc, &self.counters)?),
+            moves: Listed::of(moves_seen(alloc, &self.moves)?),
+        })
+    }
+}
