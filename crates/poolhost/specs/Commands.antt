@@ -1,5 +1,5 @@
 -- The command that a line of a script gives.
-use Rattle.std.specs.Prelude.{ℕ, if◌then◌else◌, nat_lt, length, List, [], ◌∷◌, Option, Some, None, option_map, codes}
+use Rattle.std.specs.Prelude.{ℕ, if◌then◌else◌, nat_lt, length, List, Option, Some, None, option_map, codes}
 use Rattle.std.specs.List.{before_first, after_first}
 use Rattle.std.specs.Option.{option_and_then}
 use Rattle.std.specs.Str.{bytes_eq}
@@ -72,11 +72,22 @@ ask_command None floor = None
 ask_command (Some session) None = None
 ask_command (Some session) (Some floor) = Some (Ask session floor)
 
+-- `open S USER`, by its words
+abbrev pub open_plain : List ℕ × List ℕ → Option Command
+open_plain (session, user) = open_command (name_of session) (name_of user) (Some None)
+
+-- `open S USER POOL`, by its words
+abbrev pub open_in_pool : List ℕ × List ℕ × List ℕ → Option Command
+open_in_pool (session, user, pool) = open_command (name_of session) (name_of user) (option_map Some (name_of pool))
+
+-- two words behind `open`, or else three
+abbrev pub open_words : Option (List ℕ × List ℕ) → Option (List ℕ × List ℕ × List ℕ) → Option Command
+open_words (Some pair) triple = open_plain pair
+open_words None triple = option_and_then open_in_pool triple
+
 -- the words of an `open` line
 abbrev pub open_line : List (List ℕ) → Option Command
-open_line (verb ∷ session ∷ user ∷ []) = open_command (name_of session) (name_of user) (Some None)
-open_line (verb ∷ session ∷ user ∷ pool ∷ []) = open_command (name_of session) (name_of user) (option_map Some (name_of pool))
-open_line _ = None
+open_line words = open_words (two_behind words) (three_behind words)
 
 -- the words of a `set` line
 abbrev pub set_line : List (List ℕ) → Option Command

@@ -1,7 +1,7 @@
 //! The commands of a script.
 
 ghost use Rattle.std.specs.Prelude.{◌≡◌, map, option_map, IfOk};
-ghost use Rattle.poolhost.specs.Commands.{seen_command, verb_of, first_word, text_behind, open_line, set_line, ask_line, poll_line, done_line, command_with, command_of};
+ghost use Rattle.poolhost.specs.Commands.{seen_command, verb_of, first_word, text_behind, open_plain, open_in_pool, open_line, set_line, ask_line, poll_line, done_line, command_with, command_of};
 
 use crate::numbers::floor_of;
 use crate::words::{one_behind, three_behind, two_behind, words};
@@ -105,19 +105,35 @@ fn text_behind(line: &str) -> Option<&str>
 fn open_line<'a>(words: &[&str]) -> Option<Command<'a>>
     ensures { option_map seen_command result ≡ open_line (map (λ word. word.now) words.now) }
 {
-    match words {
-        [_, session, user] => Some(Command::Open {
-            session: Name::of(session)?,
-            user: Name::of(user)?,
-            pool: None,
-        }),
-        [_, session, user, pool] => Some(Command::Open {
-            session: Name::of(session)?,
-            user: Name::of(user)?,
-            pool: Some(Name::of(pool)?),
-        }),
-        _ => None,
+    match two_behind(words) {
+        Some((session, user)) => open_plain(session, user),
+        None => {
+            let (session, user, pool) = three_behind(words)?;
+            open_in_pool(session, user, pool)
+        }
     }
+}
+
+/// `open S USER`
+fn open_plain<'a>(session: &str, user: &str) -> Option<Command<'a>>
+    ensures { option_map seen_command result ≡ open_plain (session.now, user.now) }
+{
+    Some(Command::Open {
+        session: Name::of(session)?,
+        user: Name::of(user)?,
+        pool: None,
+    })
+}
+
+/// `open S USER POOL`
+fn open_in_pool<'a>(session: &str, user: &str, pool: &str) -> Option<Command<'a>>
+    ensures { option_map seen_command result ≡ open_in_pool (session.now, user.now, pool.now) }
+{
+    Some(Command::Open {
+        session: Name::of(session)?,
+        user: Name::of(user)?,
+        pool: Some(Name::of(pool)?),
+    })
 }
 
 /// `set S pool POOL`
