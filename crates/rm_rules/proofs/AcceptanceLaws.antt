@@ -53,17 +53,17 @@ or-right true b h = refl
 or-right false b h = h
 
 -- what passes one test passes a wider one
-all_wider : {A : Type 0} (p q : A → Bool) (xs : List A) → ((x : A) → p x ≡ true → q x ≡ true) → list_all p xs ≡ true → list_all q xs ≡ true
+pub all_wider : {A : Type 0} (p q : A → Bool) (xs : List A) → ((x : A) → p x ≡ true → q x ≡ true) → list_all p xs ≡ true → list_all q xs ≡ true
 all_wider p q [] wider all = refl
 all_wider p q (x ∷ xs) wider all =
     and_both (q x) _ (wider x (and_left (p x) (list_all p xs) all)) (all_wider p q xs wider (and_right (p x) (list_all p xs) all))
 
-set_wider : {A : Type 0} (p q : A → Bool) (o : Option A) → ((x : A) → p x ≡ true → q x ≡ true) → passes_if_set p o ≡ true → passes_if_set q o ≡ true
+pub set_wider : {A : Type 0} (p q : A → Bool) (o : Option A) → ((x : A) → p x ≡ true → q x ≡ true) → passes_if_set p o ≡ true → passes_if_set q o ≡ true
 set_wider p q None wider passes = refl
 set_wider p q (Some x) wider passes = wider x passes
 
 -- what is there stays there
-has_pool-with : (d : Definitions) (row : PoolRow) (n : Name) → has_pool d n ≡ true → has_pool (with_pool d row) n ≡ true
+pub has_pool-with : (d : Definitions) (row : PoolRow) (n : Name) → has_pool d n ≡ true → has_pool (with_pool d row) n ≡ true
 has_pool-with d row n there = there_with row d.pools n there
 
 grant-known : (d : Definitions) (row : PoolRow) (g : GrantRow) → is_grant_known d g ≡ true → is_grant_known (with_pool d row) g ≡ true
@@ -333,7 +333,7 @@ let_in-altered d name c sound named h =
     }
 
 -- what an accepted statement leaves, of a pool's row
-unless-ok : (o : Option Refusal) (next new : Definitions) → unless_refused o next ≡ Ok new → (o ≡ None) × (next ≡ new)
+pub unless-ok : (o : Option Refusal) (next new : Definitions) → unless_refused o next ≡ Ok new → (o ≡ None) × (next ≡ new)
 unless-ok None next new h = (refl, cc)
 unless-ok (Some r) next new h = absurd (cc)
 

@@ -111,3 +111,13 @@ pub lent-push : (running : List Runner) (r : Runner) (es : List (PoolRow × ℕ)
     → used general (running ++ r ∷ []) + sum_by (debt (running ++ r ∷ [])) es
     ≤ used general running + sum_by (debt running) es + (r.grant - min r.grant (unused_at running (find (λ x. same_name x.0.name r.pool) es)))
 lent-push running r es apart none = lent-turn running r es (same_name general r.pool) refl apart none
+
+-- with one query more GENERAL lends no less
+pub debts-more : (running : List Runner) (r : Runner) (es : List (PoolRow × ℕ)) → sum_by (debt running) es ≤ sum_by (debt (running ++ r ∷ [])) es
+debts-more running r [] = omega arith
+debts-more running r (e ∷ es) =
+    omega (arith, debts-more running r es, used-push e.0.name running r, sum_by-cons (debt (running ++ r ∷ [])) e es, sum_by-cons (debt running) e es)
+
+pub lent-more : (running : List Runner) (r : Runner) (es : List (PoolRow × ℕ))
+    → used general running + sum_by (debt running) es ≤ used general (running ++ r ∷ []) + sum_by (debt (running ++ r ∷ [])) es
+lent-more running r es = omega (arith, debts-more running r es, used-push general running r)

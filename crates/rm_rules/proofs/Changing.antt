@@ -7,9 +7,14 @@ use Rattle.std.proofs.lemmas.List.{length_push}
 use Rattle.std.proofs.lemmas.Bool.{eqb-true, eq-eqb, false≢true}
 use Rattle.std.proofs.lemmas.Bool.Decides.{nat_tests}
 use Rattle.rm_base.specs.declared.limits.TheConstants.{SESSIONS_MOST, ENTRIES_A_QUERY, ENTRIES_A_SESSION}
+use Rattle.rm_base.specs.declared.definitions.Definitions.{Definitions}
 use Rattle.rm_base.specs.declared.event.Event.{Event}
-use Rattle.rm_base.specs.declared.event.Event.TheVariants.{Open, Submit, Finish}
+use Rattle.rm_base.specs.declared.event.Event.TheVariants.{Define, Open, SetPool, Submit, Poll, Finish}
 use Rattle.rm_base.specs.declared.name.Name.{Name}
+use Rattle.rm_base.specs.declared.refusal.Refusal.{Refusal}
+use Rattle.rm_base.specs.declared.reply.End.{End}
+use Rattle.rm_base.specs.declared.reply.Reply.TheVariants as reply
+use Rattle.rm_base.specs.declared.statement.Statement.{Statement}
 use Rattle.rm_base.specs.Name.{general}
 use Rattle.rm_rules.specs.declared.state.Phase.{Phase}
 use Rattle.rm_rules.specs.declared.state.Phase.TheVariants as phase
@@ -18,17 +23,21 @@ use Rattle.rm_rules.specs.declared.state.Waiter.{Waiter}
 use Rattle.rm_rules.specs.declared.state.Runner.{Runner}
 use Rattle.rm_rules.specs.Definitions.{user_called, pool_row, usage}
 use Rattle.rm_rules.specs.Budget.{is_too_large}
-use Rattle.rm_rules.specs.State.{State, session_called, session_of, if_opened_by, session_pool, phase_of, with_phase, without_runner, is_idle, is_waiting, is_running, live_queries, counted_entries}
+use Rattle.rm_rules.specs.State.{State, session_called, session_of, if_opened_by, session_pool, phase_of, with_phase, with_choice, without_runner, is_idle, is_active, is_waiting, is_running, live_queries, active_queries, counted_entries}
 use Rattle.rm_rules.specs.Accounting.{used, grant_in, reserves}
-use Rattle.rm_rules.specs.Change.{Change, change, opening, opened, new_session, submitting, submitted, new_waiter, finishing, finishing_with, finished, runner_of, is_journal_full}
+use Rattle.rm_rules.specs.Acceptance.{accepted}
+use Rattle.rm_rules.specs.Change.{Says, Tells, Change, change, quiet, defining_to, defining, defined, opening, opened, new_session, has_chosen, choosing, chosen, submitting, submitted, new_waiter, polling_in, polling, collected, finishing, finishing_with, finished, runner_of, is_journal_full}
+use Rattle.rm_rules.specs.Step.{IsFormed}
 use Rattle.rm_rules.specs.Sound.{has_pool}
 use Rattle.rm_base.specs.Ranges.{passes_if_set}
-use Rattle.rm_rules.specs.Healthy.{AreInPhase, one_if}
-use Rattle.rm_rules.proofs.Taken.{sum_without, length_without, found_passes, all_without, all_push, all_found}
-use Rattle.rm_rules.proofs.Phases.{phase_of-with_other, phase_of-with_same, length-with, live-with, phase_of-found, phase_of-push, live-push}
+use Rattle.rm_rules.specs.Healthy.{IsHeld, AreInPhase, counted_for, defining_for, one_if}
+use Rattle.rm_rules.proofs.Taken.{sum_without, length_without, found_passes, all_without, all_push, all_found, not_true}
+use Rattle.rm_rules.proofs.Phases.{phase_of-with_other, phase_of-with_same, length-with, live-with, active-with, phase_of-found, phase_of-push, live-push, active-push, phase_of-choice, length-choice, count-choice}
 use Rattle.rm_rules.proofs.Bytes.{debts-less}
-use Rattle.rm_rules.proofs.Known.{session_pool-known, chosen-with}
-use Rattle.rm_rules.proofs.Moving.{AreKept}
+use Rattle.rm_rules.proofs.Known.{session_pool-known, chosen-with, chosen-choice}
+use Rattle.rm_rules.proofs.AcceptanceLaws.{accepted-sound, accepted-counted}
+use Rattle.rm_rules.proofs.Defining.{accepted-row, held-defined}
+use Rattle.rm_rules.proofs.Moving.{AreKept, AreHeld}
 
 -- what is not refused
 pub unless_ok : {A E : Type 0} (b : Bool) (e : E) (r : Result A E) (c : A) → cond b (Err e) r ≡ Ok c → (b ≡ false) × (r ≡ Ok c)
@@ -59,32 +68,30 @@ opening-ok s seat user c h =
     let is : opened s seat user ≡ c = let e = room.1 in cc in
     record { few = not_above _ _ few.0; room = not_below _ _ room.0; is = is }
 
-pub kept-opened : (s : State) (seat : ℕ) (user : Name) (c : Change) → AreKept 0 s → Opens s seat user c → AreKept 1 (opened s seat user).state
+pub kept-opened : (s : State) (seat : ℕ) (user : Name) (c : Change) → AreKept 0 0 s → Opens s seat user c → AreHeld 1 0 (opened s seat user).state
 kept-opened s seat user c h o =
     let y = new_session s seat user in
     record {
       sound = h.sound;
-      covered = record {
-        sizes = h.covered.sizes;
-        within = h.covered.within;
-        in_force_least = h.covered.in_force_least;
-        in_force_most = h.covered.in_force_most;
-        in_force_is_total = h.covered.in_force_is_total;
-        full_above_total = h.covered.full_above_total;
-        granted = h.covered.granted;
-        running_known = h.covered.running_known;
-        waiting_known = h.covered.waiting_known;
-        chosen_known = all_push (λ x. passes_if_set (has_pool s.definitions) x.pool) s.sessions y h.covered.chosen_known refl;
+      held = record {
+        sizes = h.covered.held.sizes;
+        counts = h.covered.held.counts;
+        within = h.covered.held.within;
+        in_force_most = h.covered.held.in_force_most;
+        granted = h.covered.held.granted;
+        running_known = h.covered.held.running_known;
+        waiting_known = h.covered.held.waiting_known;
+        chosen_known = all_push (λ x. passes_if_set (has_pool s.definitions) x.pool) s.sessions y h.covered.held.chosen_known refl;
       };
       in_phase = record {
         waits = λ n. h.in_phase.waits n ∙ sym (ap (λ p. one_if (is_waiting p)) (phase_of-push n s.sessions y refl));
         runs = λ n. h.in_phase.runs n ∙ sym (ap (λ p. one_if (is_running p)) (phase_of-push n s.sessions y refl));
-        live = h.in_phase.live ∙ sym (live-push s.sessions y refl);
+        active = h.in_phase.active ∙ sym (active-push s.sessions y refl);
         few = omega (arith, o.few, length_push s.sessions y);
       };
       room = record {
         kept = omega (arith, o.room, live-push s.sessions y refl, length_push s.sessions y);
-        statements = h.room.statements;
+        defined = h.room.defined;
         sessions = omega (arith, h.room.sessions);
         queries = omega (arith, h.room.queries);
       };
@@ -119,6 +126,18 @@ running-phase phase.Idle h = absurd (false≢true h)
 running-phase phase.Waiting h = absurd (false≢true h)
 running-phase phase.Running h = (refl, refl)
 running-phase (phase.Ended end) h = absurd (false≢true h)
+
+idle-active : (p : Phase) → is_idle p ≡ true → is_active p ≡ false
+idle-active phase.Idle h = refl
+idle-active phase.Waiting h = absurd (false≢true h)
+idle-active phase.Running h = absurd (false≢true h)
+idle-active (phase.Ended end) h = absurd (false≢true h)
+
+running-active : (p : Phase) → is_running p ≡ true → is_active p ≡ true
+running-active phase.Idle h = absurd (false≢true h)
+running-active phase.Waiting h = absurd (false≢true h)
+running-active phase.Running h = refl
+running-active (phase.Ended end) h = absurd (false≢true h)
 
 -- Submit
 pub record Submits (s : State) (o : Option Session) (floor : ℕ) (c : Change) : Type 0 where
@@ -167,38 +186,39 @@ submit-turn s x w n false differs of h found idle =
       omega (arith, h.runs n, ap (λ p. one_if (is_running p)) now),
     )
 
-pub kept-submitted : (s : State) (x : Session) (floor : ℕ) → AreKept 0 s → session_called s.sessions x.number ≡ Some x → is_idle x.phase ≡ true
+pub kept-submitted : (s : State) (x : Session) (floor : ℕ) → AreKept 0 0 s → session_called s.sessions x.number ≡ Some x → is_idle x.phase ≡ true
     → counted_entries s.journal + 1 + ENTRIES_A_QUERY * (live_queries s.sessions + 1) + ENTRIES_A_SESSION * length s.sessions ≤ s.room
-    → AreKept 1 (submitted s x (session_pool s.definitions x) floor).state
+    → AreHeld 1 0 (submitted s x (session_pool s.definitions x) floor).state
 kept-submitted s x floor h found idle room =
     let w = new_waiter s x (session_pool s.definitions x) floor in
-    let chosen = all_found (λ (z : Session). passes_if_set (has_pool s.definitions) z.pool) (λ z. eqb z.number x.number) s.sessions x h.covered.chosen_known found in
+    let chosen = all_found (λ (z : Session). passes_if_set (has_pool s.definitions) z.pool) (λ z. eqb z.number x.number) s.sessions x h.covered.held.chosen_known found in
     let was : one_if (not (is_idle (phase_of s.sessions x.number))) ≡ 0 = ap {B = ℕ} (λ b. one_if (not b)) (ap is_idle (phase_of-found x.number s.sessions x found) ∙ idle) in
     let live : live_queries (with_phase x.number phase.Waiting s.sessions) ≡ live_queries s.sessions + 1 =
     omega (arith, live-with x.number phase.Waiting s.sessions (ap is_some found), was) in
+    let was_active : one_if (is_active (phase_of s.sessions x.number)) ≡ 0 = ap {B = ℕ} one_if (ap is_active (phase_of-found x.number s.sessions x found) ∙ idle-active x.phase idle) in
+    let active : active_queries (with_phase x.number phase.Waiting s.sessions) ≡ active_queries s.sessions + 1 =
+    omega (arith, active-with x.number phase.Waiting s.sessions (ap is_some found), was_active) in
     record {
       sound = h.sound;
-      covered = record {
-        sizes = h.covered.sizes;
-        within = h.covered.within;
-        in_force_least = h.covered.in_force_least;
-        in_force_most = h.covered.in_force_most;
-        in_force_is_total = h.covered.in_force_is_total;
-        full_above_total = h.covered.full_above_total;
-        granted = h.covered.granted;
-        running_known = h.covered.running_known;
-        waiting_known = all_push (λ z. has_pool s.definitions z.pool) s.waiting w h.covered.waiting_known (session_pool-known s.definitions x h.sound chosen);
-        chosen_known = chosen-with s.definitions x.number phase.Waiting s.sessions h.covered.chosen_known;
+      held = record {
+        sizes = h.covered.held.sizes;
+        counts = h.covered.held.counts;
+        within = h.covered.held.within;
+        in_force_most = h.covered.held.in_force_most;
+        granted = h.covered.held.granted;
+        running_known = h.covered.held.running_known;
+        waiting_known = all_push (λ z. has_pool s.definitions z.pool) s.waiting w h.covered.held.waiting_known (session_pool-known s.definitions x h.sound chosen);
+        chosen_known = chosen-with s.definitions x.number phase.Waiting s.sessions h.covered.held.chosen_known;
       };
       in_phase = record {
         waits = λ n. (submit-turn s x w n (eqb x.number n) refl refl h.in_phase found idle).0;
         runs = λ n. (submit-turn s x w n (eqb x.number n) refl refl h.in_phase found idle).1;
-        live = omega (arith, h.in_phase.live, live, length_push s.waiting w);
+        active = omega (arith, h.in_phase.active, active, length_push s.waiting w);
         few = omega (arith, h.in_phase.few, length-with x.number phase.Waiting s.sessions);
       };
       room = record {
         kept = omega (arith, room, live, length-with x.number phase.Waiting s.sessions);
-        statements = h.room.statements;
+        defined = h.room.defined;
         sessions = omega (arith, h.room.sessions);
         queries = omega (arith, h.room.queries);
       };
@@ -245,8 +265,8 @@ finish-turn s x r n false differs h found running runs =
       omega (arith, sum_without (λ (z : Runner). cond (eqb z.session n) 1 0) (λ z. eqb z.session x.number) r s.running runs, taken, h.runs n, ap (λ p. one_if (is_running p)) now),
     )
 
-pub kept-finished : (s : State) (x : Session) (r : Runner) → AreKept 0 s → session_called s.sessions x.number ≡ Some x → is_running x.phase ≡ true
-    → runner_of s.running x.number ≡ Some r → AreKept 1 (finished s x r).state
+pub kept-finished : (s : State) (x : Session) (r : Runner) → AreKept 0 0 s → session_called s.sessions x.number ≡ Some x → is_running x.phase ≡ true
+    → runner_of s.running x.number ≡ Some r → AreHeld 1 0 (finished s x r).state
 kept-finished s x r h found running runs =
     let test : Runner → Bool = λ z. eqb z.session x.number in
     let left = without_runner x.number s.running in
@@ -254,53 +274,244 @@ kept-finished s x r h found running runs =
     let was : one_if (not (is_idle (phase_of s.sessions x.number))) ≡ 1 = ap {B = ℕ} (λ b. one_if (not b)) (ap is_idle (phase_of-found x.number s.sessions x found) ∙ (running-phase x.phase running).1) in
     let live : live_queries (with_phase x.number phase.Idle s.sessions) + 1 ≡ live_queries s.sessions =
     omega (arith, live-with x.number phase.Idle s.sessions (ap is_some found), was) in
+    let was_active : one_if (is_active (phase_of s.sessions x.number)) ≡ 1 = ap {B = ℕ} one_if (ap is_active (phase_of-found x.number s.sessions x found) ∙ running-active x.phase running) in
+    let active : active_queries (with_phase x.number phase.Idle s.sessions) + 1 ≡ active_queries s.sessions =
+    omega (arith, active-with x.number phase.Idle s.sessions (ap is_some found), was_active) in
     record {
       sound = h.sound;
-      covered = record {
-        sizes = h.covered.sizes;
-        within = omega (arith, h.covered.within, debts-less s.running left (reserves s) less, less general);
-        in_force_least = h.covered.in_force_least;
-        in_force_most = h.covered.in_force_most;
-        in_force_is_total = h.covered.in_force_is_total;
-        full_above_total = λ above. absurd (omega (arith, above, h.covered.in_force_is_total));
-        granted = omega (arith, h.covered.granted, sum_without (λ (z : Runner). z.grant) (λ z. eqb z.session x.number) r s.running runs);
-        running_known = all_without (λ z. has_pool s.definitions z.pool) (λ z. eqb z.session x.number) s.running h.covered.running_known;
-        waiting_known = h.covered.waiting_known;
-        chosen_known = chosen-with s.definitions x.number phase.Idle s.sessions h.covered.chosen_known;
+      held = record {
+        sizes = h.covered.held.sizes;
+        counts = h.covered.held.counts;
+        within = omega (arith, h.covered.held.within, debts-less s.running left (reserves s) less, less general);
+        in_force_most = h.covered.held.in_force_most;
+        granted = omega (arith, h.covered.held.granted, sum_without (λ (z : Runner). z.grant) (λ z. eqb z.session x.number) r s.running runs);
+        running_known = all_without (λ z. has_pool s.definitions z.pool) (λ z. eqb z.session x.number) s.running h.covered.held.running_known;
+        waiting_known = h.covered.held.waiting_known;
+        chosen_known = chosen-with s.definitions x.number phase.Idle s.sessions h.covered.held.chosen_known;
       };
       in_phase = record {
         waits = λ n. (finish-turn s x r n (eqb x.number n) refl h.in_phase found running runs).0;
         runs = λ n. (finish-turn s x r n (eqb x.number n) refl h.in_phase found running runs).1;
-        live = omega (arith, h.in_phase.live, live, length_without (λ (z : Runner). eqb z.session x.number) r s.running runs);
+        active = omega (arith, h.in_phase.active, active, length_without (λ (z : Runner). eqb z.session x.number) r s.running runs);
         few = omega (arith, h.in_phase.few, length-with x.number phase.Idle s.sessions);
       };
       room = record {
         kept = omega (arith, h.room.kept, live, length-with x.number phase.Idle s.sessions);
-        statements = h.room.statements;
+        defined = h.room.defined;
         sessions = omega (arith, h.room.sessions);
         queries = omega (arith, h.room.queries);
       };
     }
 
--- every accepted event
-pub kept-changed : (s : State) (seat : ℕ) (event : Event) (c : Change) → AreKept 0 s → change s seat event ≡ Ok c → AreKept 1 c.state
-kept-changed s seat (Open user) c h ok =
+-- Define
+pub record Defines (s : State) (statement : Statement) (c : Change) : Type 0 where
+  pub new : Definitions
+  pub accepts : accepted s.definitions statement ≡ Ok new
+  pub is : defined s new ≡ c
+
+defining_to-ok : (s : State) (statement : Statement) (r : Result Definitions Refusal) (c : Change) → accepted s.definitions statement ≡ r → defining_to s r ≡ Ok c
+    → Defines s statement c
+defining_to-ok s statement (Err refusal) c e h = absurd (cc)
+defining_to-ok s statement (Ok new) c e h = let is : defined s new ≡ c = cc in record { new = new; accepts = e; is = is }
+
+pub defining-ok : (s : State) (statement : Statement) (c : Change) → defining s statement ≡ Ok c → Defines s statement c
+defining-ok s statement c h = defining_to-ok s statement (accepted s.definitions statement) c refl h
+
+pub kept-defined : (s : State) (statement : Statement) (new : Definitions) → IsFormed (Define statement) → AreKept 0 0 s → accepted s.definitions statement ≡ Ok new
+    → AreHeld 0 1 (defined s new).state
+kept-defined s statement new formed h accepts =
+    let row = accepted-row s.definitions statement new formed.0 accepts in
+    let counted = accepted-counted s.definitions statement new formed.0 accepts in
+    record {
+      sound = accepted-sound s.definitions statement new h.sound formed.1 formed.0 accepts;
+      held = subst (λ d. IsHeld (defined s d).state) row.1 (held-defined s row.0 h.sound h.covered.held);
+      in_phase = record { waits = h.in_phase.waits; runs = h.in_phase.runs; active = h.in_phase.active; few = h.in_phase.few };
+      room = record {
+        kept = h.room.kept;
+        defined = omega (arith, h.room.defined, counted.changes);
+        sessions = h.room.sessions;
+        queries = h.room.queries;
+      };
+    }
+
+-- SetPool: nothing changes, or the choice of a session
+pub data Chooses (s : State) (o : Option Session) (pool : Name) : Change → Type 0 where
+  stays : Chooses s o pool (quiet s (Says reply.Set))
+  changes : (x : Session) → o ≡ Some x → has_pool s.definitions pool ≡ true
+      → counted_entries s.journal + 1 + ENTRIES_A_QUERY * live_queries s.sessions + ENTRIES_A_SESSION * length s.sessions ≤ s.room
+      → Chooses s o pool (chosen s x pool)
+
+chosen-turn : (s : State) (x : Session) (pool : Name) (c : Change) (b : Bool) → has_pool s.definitions pool ≡ true
+    → counted_entries s.journal + 1 + ENTRIES_A_QUERY * live_queries s.sessions + ENTRIES_A_SESSION * length s.sessions ≤ s.room
+    → cond {A = Result Change Refusal} b (Ok (quiet s (Says reply.Set))) (Ok (chosen s x pool)) ≡ Ok c → Chooses s (Some x) pool c
+chosen-turn s x pool c true there room h = let is : quiet s (Says reply.Set) ≡ c = let e = h in cc in subst (Chooses s (Some x) pool) is stays
+chosen-turn s x pool c false there room h = let is : chosen s x pool ≡ c = let e = h in cc in subst (Chooses s (Some x) pool) is (changes x refl there room)
+
+pub choosing-ok : (s : State) (o : Option Session) (pool : Name) (c : Change) → choosing s o pool ≡ Ok c → Chooses s o pool c
+choosing-ok s None pool c h = absurd (cc)
+choosing-ok s (Some x) pool c h =
+    let there = unless_ok (not (has_pool s.definitions pool)) _ _ c h in
+    let may = unless_ok (not (usage s.definitions x.user pool)) _ _ c there.1 in
+    let room = unless_ok (is_journal_full s (live_queries s.sessions) (length s.sessions)) _ _ c may.1 in
+    chosen-turn s x pool c (has_chosen x pool) (not_true (has_pool s.definitions pool) there.0) (not_below _ _ room.0) room.1
+
+pub kept-chosen : (s : State) (x : Session) (pool : Name) → AreKept 0 0 s → has_pool s.definitions pool ≡ true
+    → counted_entries s.journal + 1 + ENTRIES_A_QUERY * live_queries s.sessions + ENTRIES_A_SESSION * length s.sessions ≤ s.room
+    → AreHeld 1 0 (chosen s x pool).state
+kept-chosen s x pool h there room = record {
+  sound = h.sound;
+  held = record {
+    sizes = h.covered.held.sizes;
+    counts = h.covered.held.counts;
+    within = h.covered.held.within;
+    in_force_most = h.covered.held.in_force_most;
+    granted = h.covered.held.granted;
+    running_known = h.covered.held.running_known;
+    waiting_known = h.covered.held.waiting_known;
+    chosen_known = chosen-choice s.definitions x.number pool s.sessions there h.covered.held.chosen_known;
+  };
+  in_phase = record {
+    waits = λ n. h.in_phase.waits n ∙ sym (ap (λ p. one_if (is_waiting p)) (phase_of-choice x.number n pool s.sessions));
+    runs = λ n. h.in_phase.runs n ∙ sym (ap (λ p. one_if (is_running p)) (phase_of-choice x.number n pool s.sessions));
+    active = h.in_phase.active ∙ sym (count-choice is_active x.number pool s.sessions);
+    few = omega (arith, h.in_phase.few, length-choice x.number pool s.sessions);
+  };
+  room = record {
+    kept = omega (arith, room, count-choice (λ p. not (is_idle p)) x.number pool s.sessions, length-choice x.number pool s.sessions);
+    defined = h.room.defined;
+    sessions = omega (arith, h.room.sessions);
+    queries = omega (arith, h.room.queries);
+  };
+}
+
+-- Poll: nothing changes, or an end is collected
+pub data Polls (s : State) (o : Option Session) : Change → Type 0 where
+  tells : (x : Session) → o ≡ Some x → Polls s o (quiet s (Tells x.number))
+  collects : (x : Session) (end : End) → o ≡ Some x → x.phase ≡ phase.Ended end → Polls s o (collected s x end)
+
+polling-turn : (s : State) (x : Session) (p : Phase) (c : Change) → x.phase ≡ p → polling_in s x p ≡ Ok c → Polls s (Some x) c
+polling-turn s x phase.Idle c e h = absurd (cc)
+polling-turn s x phase.Waiting c e h = let is : quiet s (Tells x.number) ≡ c = cc in subst (Polls s (Some x)) is (tells x refl)
+polling-turn s x phase.Running c e h = let is : quiet s (Tells x.number) ≡ c = cc in subst (Polls s (Some x)) is (tells x refl)
+polling-turn s x (phase.Ended end) c e h = let is : collected s x end ≡ c = cc in subst (Polls s (Some x)) is (collects x end refl e)
+
+pub polling-ok : (s : State) (o : Option Session) (c : Change) → polling s o ≡ Ok c → Polls s o c
+polling-ok s None c h = absurd (cc)
+polling-ok s (Some x) c h = polling-turn s x x.phase c refl h
+
+-- no session's phase has changed but that of one that had ended
+collect-turn : (s : State) (x : Session) (end : End) (n : ℕ) (b : Bool) → eqb x.number n ≡ b → AreInPhase s → session_called s.sessions x.number ≡ Some x → x.phase ≡ phase.Ended end
+    → (count_by (λ (z : Waiter). eqb z.session n) s.waiting ≡ one_if (is_waiting (phase_of (with_phase x.number phase.Idle s.sessions) n)))
+    × (count_by (λ (z : Runner). eqb z.session n) s.running ≡ one_if (is_running (phase_of (with_phase x.number phase.Idle s.sessions) n)))
+collect-turn s x end n true same h found ended =
+    let now = phase_of-with_same x.number phase.Idle s.sessions (ap is_some found) in
+    let was : phase_of s.sessions x.number ≡ phase.Ended end = phase_of-found x.number s.sessions x found ∙ ended in
+    subst (λ (n : ℕ). (count_by (λ (z : Waiter). eqb z.session n) s.waiting ≡ one_if (is_waiting (phase_of (with_phase x.number phase.Idle s.sessions) n)))
+    × (count_by (λ (z : Runner). eqb z.session n) s.running ≡ one_if (is_running (phase_of (with_phase x.number phase.Idle s.sessions) n))))
+    (eqb-true x.number n same) (
+      h.waits x.number ∙ ap (λ p. one_if (is_waiting p)) was ∙ sym (ap (λ p. one_if (is_waiting p)) now),
+      h.runs x.number ∙ ap (λ p. one_if (is_running p)) was ∙ sym (ap (λ p. one_if (is_running p)) now),
+    )
+collect-turn s x end n false differs h found ended =
+    let now = phase_of-with_other x.number n phase.Idle s.sessions differs in (
+      h.waits n ∙ sym (ap (λ p. one_if (is_waiting p)) now),
+      h.runs n ∙ sym (ap (λ p. one_if (is_running p)) now),
+    )
+
+pub kept-collected : (s : State) (x : Session) (end : End) → AreKept 0 0 s → session_called s.sessions x.number ≡ Some x → x.phase ≡ phase.Ended end
+    → AreHeld 1 0 (collected s x end).state
+kept-collected s x end h found ended =
+    let was : phase_of s.sessions x.number ≡ phase.Ended end = phase_of-found x.number s.sessions x found ∙ ended in
+    let live : live_queries (with_phase x.number phase.Idle s.sessions) + 1 ≡ live_queries s.sessions =
+    omega (arith, live-with x.number phase.Idle s.sessions (ap is_some found), ap {B = ℕ} (λ p. one_if (not (is_idle p))) was) in
+    let active : active_queries (with_phase x.number phase.Idle s.sessions) ≡ active_queries s.sessions =
+    omega (arith, active-with x.number phase.Idle s.sessions (ap is_some found), ap {B = ℕ} (λ p. one_if (is_active p)) was) in
+    record {
+      sound = h.sound;
+      held = record {
+        sizes = h.covered.held.sizes;
+        counts = h.covered.held.counts;
+        within = h.covered.held.within;
+        in_force_most = h.covered.held.in_force_most;
+        granted = h.covered.held.granted;
+        running_known = h.covered.held.running_known;
+        waiting_known = h.covered.held.waiting_known;
+        chosen_known = chosen-with s.definitions x.number phase.Idle s.sessions h.covered.held.chosen_known;
+      };
+      in_phase = record {
+        waits = λ n. (collect-turn s x end n (eqb x.number n) refl h.in_phase found ended).0;
+        runs = λ n. (collect-turn s x end n (eqb x.number n) refl h.in_phase found ended).1;
+        active = h.in_phase.active ∙ sym active;
+        few = omega (arith, h.in_phase.few, length-with x.number phase.Idle s.sessions);
+      };
+      room = record {
+        kept = omega (arith, h.room.kept, live, length-with x.number phase.Idle s.sessions);
+        defined = h.room.defined;
+        sessions = omega (arith, h.room.sessions);
+        queries = omega (arith, h.room.queries);
+      };
+    }
+
+-- what each accepted event changes, if it changes anything
+pub data IsChange (s : State) (seat : ℕ) : Event → Change → Type 0 where
+  defines : (statement : Statement) (new : Definitions) → accepted s.definitions statement ≡ Ok new → IsChange s seat (Define statement) (defined s new)
+  opens : (user : Name) → Opens s seat user (opened s seat user) → IsChange s seat (Open user) (opened s seat user)
+  chooses : (session : ℕ) (pool : Name) (x : Session) → session_of s seat session ≡ Some x → has_pool s.definitions pool ≡ true
+      → counted_entries s.journal + 1 + ENTRIES_A_QUERY * live_queries s.sessions + ENTRIES_A_SESSION * length s.sessions ≤ s.room
+      → IsChange s seat (SetPool session pool) (chosen s x pool)
+  submits : (session floor : ℕ) (x : Session) → session_of s seat session ≡ Some x → is_idle x.phase ≡ true
+      → counted_entries s.journal + 1 + ENTRIES_A_QUERY * (live_queries s.sessions + 1) + ENTRIES_A_SESSION * length s.sessions ≤ s.room
+      → IsChange s seat (Submit session floor) (submitted s x (session_pool s.definitions x) floor)
+  collects : (session : ℕ) (x : Session) (end : End) → session_of s seat session ≡ Some x → x.phase ≡ phase.Ended end
+      → IsChange s seat (Poll session) (collected s x end)
+  finishes : (session : ℕ) (x : Session) (r : Runner) → session_of s seat session ≡ Some x → is_running x.phase ≡ true → runner_of s.running x.number ≡ Some r
+      → IsChange s seat (Finish session) (finished s x r)
+
+choose-changes : (s : State) (seat session : ℕ) (pool : Name) (c : Change) → Chooses s (session_of s seat session) pool c → c.changed ≡ true
+    → IsChange s seat (SetPool session pool) c
+choose-changes s seat session pool _ stays loud = absurd (false≢true loud)
+choose-changes s seat session pool _ (changes x found there room) loud = chooses session pool x found there room
+
+poll-changes : (s : State) (seat session : ℕ) (c : Change) → Polls s (session_of s seat session) c → c.changed ≡ true → IsChange s seat (Poll session) c
+poll-changes s seat session _ (tells x found) loud = absurd (false≢true loud)
+poll-changes s seat session _ (collects x end found ended) loud = collects session x end found ended
+
+pub changed-is : (s : State) (seat : ℕ) (event : Event) (c : Change) → change s seat event ≡ Ok c → c.changed ≡ true → IsChange s seat event c
+changed-is s seat (Define statement) c ok loud =
+    let o = defining-ok s statement c ok in subst (IsChange s seat (Define statement)) o.is (defines statement o.new o.accepts)
+changed-is s seat (Open user) c ok loud =
     let o = opening-ok s seat user c ok in
-    subst (λ (d : Change). AreKept 1 d.state) o.is (kept-opened s seat user c h o)
-kept-changed s seat (Submit session floor) c h ok =
+    subst (IsChange s seat (Open user)) o.is (opens user (record { few = o.few; room = o.room; is = refl }))
+changed-is s seat (SetPool session pool) c ok loud = choose-changes s seat session pool c (choosing-ok s (session_of s seat session) pool c ok) loud
+changed-is s seat (Submit session floor) c ok loud =
     let o = submitting-ok s (session_of s seat session) floor c ok in
-    subst (λ (d : Change). AreKept 1 d.state) o.is (kept-submitted s o.session floor h (session_of-found s seat session o.session o.found) o.idle o.room)
-kept-changed s seat (Finish session) c h ok =
+    subst (IsChange s seat (Submit session floor)) o.is (submits session floor o.session o.found o.idle o.room)
+changed-is s seat (Poll session) c ok loud = poll-changes s seat session c (polling-ok s (session_of s seat session) c ok) loud
+changed-is s seat (Finish session) c ok loud =
     let o = finishing-ok s (session_of s seat session) c ok in
-    subst (λ (d : Change). AreKept 1 d.state) o.is (kept-finished s o.session o.runner h (session_of-found s seat session o.session o.found) o.phase_is o.runs)
+    subst (IsChange s seat (Finish session)) o.is (finishes session o.session o.runner o.found o.phase_is o.runs)
 
--- no event changes the journal or the clock before its entry is made
-pub journal-changed : (s : State) (seat : ℕ) (event : Event) (c : Change) → change s seat event ≡ Ok c → c.state.journal ≡ s.journal
-journal-changed s seat (Open user) c ok = ap (λ (d : Change). d.state.journal) (sym (opening-ok s seat user c ok).is)
-journal-changed s seat (Submit session floor) c ok = ap (λ (d : Change). d.state.journal) (sym (submitting-ok s (session_of s seat session) floor c ok).is)
-journal-changed s seat (Finish session) c ok = ap (λ (d : Change). d.state.journal) (sym (finishing-ok s (session_of s seat session) c ok).is)
+-- what holds of every change, before it settles
+pub kept-changed : (s : State) (seat : ℕ) (event : Event) (c : Change) → IsFormed event → AreKept 0 0 s → IsChange s seat event c
+    → AreHeld (counted_for c.answer) (defining_for c.answer) c.state
+kept-changed s seat _ _ formed h (defines statement new accepts) = kept-defined s statement new formed h accepts
+kept-changed s seat _ _ formed h (opens user o) = kept-opened s seat user (opened s seat user) h o
+kept-changed s seat _ _ formed h (chooses session pool x found there room) = kept-chosen s x pool h there room
+kept-changed s seat _ _ formed h (submits session floor x found idle room) = kept-submitted s x floor h (session_of-found s seat session x found) idle room
+kept-changed s seat _ _ formed h (collects session x end found ended) = kept-collected s x end h (session_of-found s seat session x found) ended
+kept-changed s seat _ _ formed h (finishes session x r found running runs) = kept-finished s x r h (session_of-found s seat session x found) running runs
 
-pub clock-changed : (s : State) (seat : ℕ) (event : Event) (c : Change) → change s seat event ≡ Ok c → c.state.clock ≡ s.clock
-clock-changed s seat (Open user) c ok = ap (λ (d : Change). d.state.clock) (sym (opening-ok s seat user c ok).is)
-clock-changed s seat (Submit session floor) c ok = ap (λ (d : Change). d.state.clock) (sym (submitting-ok s (session_of s seat session) floor c ok).is)
-clock-changed s seat (Finish session) c ok = ap (λ (d : Change). d.state.clock) (sym (finishing-ok s (session_of s seat session) c ok).is)
+-- no change touches the journal, the clock, the room or the memory in force
+pub record LeavesRest (s t : State) : Type 0 where
+  pub journal : t.journal ≡ s.journal
+  pub clock : t.clock ≡ s.clock
+  pub room : t.room ≡ s.room
+  pub force : t.in_force ≡ s.in_force
+
+pub rest-changed : (s : State) (seat : ℕ) (event : Event) (c : Change) → IsChange s seat event c → LeavesRest s c.state
+rest-changed s seat _ _ (defines statement new accepts) = record { journal = refl; clock = refl; room = refl; force = refl }
+rest-changed s seat _ _ (opens user o) = record { journal = refl; clock = refl; room = refl; force = refl }
+rest-changed s seat _ _ (chooses session pool x found there room) = record { journal = refl; clock = refl; room = refl; force = refl }
+rest-changed s seat _ _ (submits session floor x found idle room) = record { journal = refl; clock = refl; room = refl; force = refl }
+rest-changed s seat _ _ (collects session x end found ended) = record { journal = refl; clock = refl; room = refl; force = refl }
+rest-changed s seat _ _ (finishes session x r found running runs) = record { journal = refl; clock = refl; room = refl; force = refl }

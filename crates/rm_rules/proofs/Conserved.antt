@@ -200,15 +200,16 @@ borrowed-lent s h sizes known =
 pub conserved : (s : State) → IsSound s.definitions → IsCovered s → IsConserved s
 conserved s sound covered =
     let h = HasNames-sound s sound in
-    let e = granted-unused s h covered.sizes covered.running_known in
+    let held = covered.held in
+    let e = granted-unused s h held.sizes held.running_known in
     record {
-      adds_up = omega (arith, e, covered.within);
-      never_negative = covered.within;
+      adds_up = omega (arith, e, held.within);
+      never_negative = held.within;
       accounts_whole = λ before rest r _. account_whole s before r (same_name r.pool general) refl;
       own_bytes = own_bytes-all s;
       own_within = own_of-actual s;
-      borrowed_bytes = borrowed-lent s h covered.sizes covered.running_known;
-      lent_within = omega (arith, covered.within);
+      borrowed_bytes = borrowed-lent s h held.sizes held.running_known;
+      lent_within = omega (arith, held.within);
       total_in_force = covered.in_force_least;
       full_above_total = covered.full_above_total;
     }

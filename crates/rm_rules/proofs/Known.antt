@@ -15,7 +15,7 @@ use Rattle.rm_base.specs.Name.{same_name, general}
 use Rattle.rm_rules.specs.declared.state.Phase.{Phase}
 use Rattle.rm_rules.specs.declared.state.Session.{Session}
 use Rattle.rm_rules.specs.Definitions.{user_called, role_called, pool_by_role, role_pool, default_pool}
-use Rattle.rm_rules.specs.State.{session_pool, with_phase}
+use Rattle.rm_rules.specs.State.{session_pool, with_phase, with_choice}
 use Rattle.rm_rules.specs.Sound.{IsSound, has_pool, begins_with_general}
 use Rattle.rm_base.specs.Ranges.{passes_if_set}
 use Rattle.rm_rules.proofs.Taken.{and_left, and_right, and_both, all_found}
@@ -80,4 +80,16 @@ chosen-with d n p (x ∷ xs) all =
     elim (x.number == n) as (λ b. list_all (λ y. passes_if_set (has_pool d) y.pool) (cond b ((record x { phase = p }) ∷ xs) (x ∷ with_phase n p xs)) ≡ true) [
       | true ↦ and_both _ _ here more
       | false ↦ and_both _ _ here (chosen-with d n p xs more)
+    ]
+
+-- nor does a pool that is there, when it is chosen
+pub chosen-choice : (d : Definitions) (n : ℕ) (pool : Name) (xs : List Session) → has_pool d pool ≡ true → list_all (λ x. passes_if_set (has_pool d) x.pool) xs ≡ true
+    → list_all (λ x. passes_if_set (has_pool d) x.pool) (with_choice n pool xs) ≡ true
+chosen-choice d n pool [] there all = refl
+chosen-choice d n pool (x ∷ xs) there all =
+    let here : passes_if_set (has_pool d) x.pool ≡ true = and_left _ (list_all (λ y. passes_if_set (has_pool d) y.pool) xs) all in
+    let more : list_all (λ y. passes_if_set (has_pool d) y.pool) xs ≡ true = and_right (passes_if_set (has_pool d) x.pool) _ all in
+    elim (x.number == n) as (λ b. list_all (λ y. passes_if_set (has_pool d) y.pool) (cond b ((record x { pool = Some pool }) ∷ xs) (x ∷ with_choice n pool xs)) ≡ true) [
+      | true ↦ and_both _ _ there more
+      | false ↦ and_both _ _ here (chosen-choice d n pool xs there more)
     ]

@@ -5,10 +5,14 @@ pub mod Pools
 pub mod Queue
 pub mod Known
 pub mod Conserved
-pub mod Moving
-pub mod Changing
-pub mod Laws
 pub mod AcceptancePools
 pub mod AcceptanceChains
 pub mod AcceptanceRanges
 pub mod AcceptanceLaws
+pub mod Defining
+pub mod Shuffling
+pub mod Moving
+pub mod Ending
+pub mod Settling
+pub mod Changing
+pub mod Laws

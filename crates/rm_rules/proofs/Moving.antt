@@ -11,24 +11,31 @@ use Rattle.rm_rules.specs.declared.state.Phase.TheVariants as phase
 use Rattle.rm_rules.specs.declared.state.Waiter.{Waiter}
 use Rattle.rm_rules.specs.declared.state.Runner.{Runner}
 use Rattle.rm_rules.specs.Definitions.{user_pools}
-use Rattle.rm_rules.specs.State.{State, phase_of, with_phase, without_waiter, is_idle, is_waiting, is_running, live_queries}
+use Rattle.rm_rules.specs.State.{State, phase_of, with_phase, without_waiter, is_idle, is_active, is_waiting, is_running, live_queries, active_queries}
 use Rattle.rm_rules.specs.Accounting.{reserves, lent, free}
-use Rattle.rm_rules.specs.Admission.{ask_of, need, poolfit, judged_for, started, admitted, first_entitled, repeated, settled}
+use Rattle.rm_rules.specs.Admission.{ask_of, need, poolfit, judged_for, started, admitted, first_entitled, repeated}
 use Rattle.rm_rules.specs.Sound.{IsSound, has_pool}
-use Rattle.rm_rules.specs.Healthy.{IsCovered, AreInPhase, HasRoom, one_if}
+use Rattle.rm_rules.specs.Healthy.{IsHeld, IsCovered, AreInPhase, HasRoom, one_if}
 use Rattle.rm_rules.proofs.Taken.{sum_without, length_without, found_passes, found_counted, all_without, all_push, all_among, counted_among}
-use Rattle.rm_rules.proofs.Phases.{phase_of-with_other, phase_of-with_same, length-with, live-with, open_if_live}
-use Rattle.rm_rules.proofs.Bytes.{apart-zip, absent-zip, general-absent, user_pools-distinct, lent-push}
+use Rattle.rm_rules.proofs.Phases.{phase_of-with_other, phase_of-with_same, length-with, live-with, active-with, open_if_live}
+use Rattle.rm_rules.proofs.Bytes.{apart-zip, absent-zip, general-absent, user_pools-distinct, lent-push, lent-more}
 use Rattle.rm_rules.proofs.Known.{chosen-with}
 use Rattle.rm_rules.proofs.Queue.{IsAmong, first_entitled_fits}
 use Rattle.rm_rules.proofs.Conserved.{granted-within}
 
--- what all states keep, with room for so many entries
-pub record AreKept (entries : ℕ) (s : State) : Type 0 where
+-- what all states keep once they have settled, with room for so many entries and so many of accepted statements
+pub record AreKept (entries statements : ℕ) (s : State) : Type 0 where
   pub sound : IsSound s.definitions
   pub covered : IsCovered s
   pub in_phase : AreInPhase s
-  pub room : HasRoom entries s
+  pub room : HasRoom entries statements s
+
+-- and before they settle
+pub record AreHeld (entries statements : ℕ) (s : State) : Type 0 where
+  pub sound : IsSound s.definitions
+  pub held : IsHeld s
+  pub in_phase : AreInPhase s
+  pub room : HasRoom entries statements s
 
 -- what fits needs no more than is free
 enough : (p : Bool) (n l t f : ℕ) → (p && (eqb n 0 || (leb l t && leb n f))) ≡ true → n ≤ f
@@ -44,40 +51,53 @@ lent-admitted s w sound fits =
 within-admitted : (s : State) (w : Waiter) → IsSound s.definitions → IsCovered s → (judged_for s w).fits ≡ true → sum s.actual + lent (admitted s w) ≤ s.in_force
 within-admitted s w sound covered fits =
     let needs : need s w.pool (ask_of s w) ≤ free s = enough (poolfit s w.pool (ask_of s w)) (need s w.pool (ask_of s w)) _ _ (free s) fits in
-    omega (arith, lent-admitted s w sound fits, covered.within)
+    omega (arith, lent-admitted s w sound fits, covered.held.within)
+
+-- an admission frees nothing
+full-admitted : (s : State) (w : Waiter) → IsSound s.definitions → IsCovered s → (judged_for s w).fits ≡ true → free s ≡ 0 → free (admitted s w) ≡ 0
+full-admitted s w sound covered fits full = omega (arith, full, lent-more s.running (started s w) (reserves s))
 
 pub covered-admitted : (s : State) (w : Waiter) → IsSound s.definitions → IsCovered s → first_entitled s ≡ Some w → IsCovered (admitted s w)
 covered-admitted s w sound covered picked =
     let f = first_entitled_fits s w picked in
+    let held = covered.held in
     let known : has_pool s.definitions w.pool ≡ true =
-    all_among (λ x. has_pool s.definitions x.pool) f.0.front f.0.rest w (subst (λ (l : List Waiter). list_all (λ x. has_pool s.definitions x.pool) l ≡ true) f.0.split covered.waiting_known) in
+    all_among (λ x. has_pool s.definitions x.pool) f.0.front f.0.rest w (subst (λ (l : List Waiter). list_all (λ x. has_pool s.definitions x.pool) l ≡ true) f.0.split held.waiting_known) in
     let within = within-admitted s w sound covered f.1 in
-    let running = all_push (λ x. has_pool s.definitions x.pool) s.running (started s w) covered.running_known known in
+    let running = all_push (λ x. has_pool s.definitions x.pool) s.running (started s w) held.running_known known in
     record {
-      sizes = covered.sizes;
-      within = within;
+      held = record {
+        sizes = held.sizes;
+        counts = held.counts;
+        within = within;
+        in_force_most = held.in_force_most;
+        granted = granted-within (admitted s w) sound held.sizes within running;
+        running_known = running;
+        waiting_known = all_without (λ x. has_pool s.definitions x.pool) (λ x. eqb x.session w.session) s.waiting held.waiting_known;
+        chosen_known = chosen-with s.definitions w.session phase.Running s.sessions held.chosen_known;
+      };
       in_force_least = covered.in_force_least;
-      in_force_most = covered.in_force_most;
-      in_force_is_total = covered.in_force_is_total;
-      full_above_total = λ above. absurd (omega (arith, above, covered.in_force_is_total));
-      granted = granted-within (admitted s w) sound covered.sizes within running;
-      running_known = running;
-      waiting_known = all_without (λ x. has_pool s.definitions x.pool) (λ x. eqb x.session w.session) s.waiting covered.waiting_known;
-      chosen_known = chosen-with s.definitions w.session phase.Running s.sessions covered.chosen_known;
+      full_above_total = λ above. full-admitted s w sound covered f.1 (covered.full_above_total above);
     }
 
 one_or_none : (b : Bool) → 1 ≤ one_if b → b ≡ true
 one_or_none true h = refl
 one_or_none false h = absurd (omega arith)
 
-waiting-live : (p : Phase) → is_waiting p ≡ true → (is_idle p ≡ false) × (is_running p ≡ false)
+pub waiting-live : (p : Phase) → is_waiting p ≡ true → (is_idle p ≡ false) × (is_running p ≡ false)
 waiting-live phase.Idle h = absurd (false≢true h)
 waiting-live phase.Waiting h = (refl, refl)
 waiting-live phase.Running h = absurd (false≢true h)
 waiting-live (phase.Ended end) h = absurd (false≢true h)
 
+pub waiting-active : (p : Phase) → is_waiting p ≡ true → is_active p ≡ true
+waiting-active phase.Idle h = absurd (false≢true h)
+waiting-active phase.Waiting h = refl
+waiting-active phase.Running h = refl
+waiting-active (phase.Ended end) h = absurd (false≢true h)
+
 -- the session of a waiting query waits
-session-waits : (s : State) (w : Waiter) → AreInPhase s → IsAmong w s.waiting → is_waiting (phase_of s.sessions w.session) ≡ true
+pub session-waits : (s : State) (w : Waiter) → AreInPhase s → IsAmong w s.waiting → is_waiting (phase_of s.sessions w.session) ≡ true
 session-waits s w h among =
     let counted : 1 ≤ count_by (λ (x : Waiter). eqb x.session w.session) s.waiting =
     subst (λ (l : List Waiter). 1 ≤ count_by (λ x. eqb x.session w.session) l) (sym among.split)
@@ -121,7 +141,7 @@ in_phase-turn s w y n true same h waits found =
 in_phase-turn s w y n false differs h waits found = in_phase-other s w y n differs h found
 
 -- the session's query that is found among the waiting ones
-waiter_found : (s : State) (w : Waiter) → IsAmong w s.waiting → (y : Waiter) × (find (λ (x : Waiter). eqb x.session w.session) s.waiting ≡ Some y)
+pub waiter_found : (s : State) (w : Waiter) → IsAmong w s.waiting → (y : Waiter) × (find (λ (x : Waiter). eqb x.session w.session) s.waiting ≡ Some y)
 waiter_found s w among =
     found_counted (λ (x : Waiter). eqb x.session w.session) s.waiting
     (subst (λ (l : List Waiter). 1 ≤ count_by (λ x. eqb x.session w.session) l) (sym among.split)
@@ -133,6 +153,12 @@ live-admitted s w h among =
     let was : one_if (not (is_idle (phase_of s.sessions w.session))) ≡ 1 = ap {B = ℕ} (λ b. one_if (not b)) (waiting-live _ waits).0 in
     omega (arith, live-with w.session phase.Running s.sessions (open_if_live w.session s.sessions (waiting-live _ waits).0), was)
 
+active-admitted : (s : State) (w : Waiter) → AreInPhase s → IsAmong w s.waiting → active_queries (with_phase w.session phase.Running s.sessions) ≡ active_queries s.sessions
+active-admitted s w h among =
+    let waits = session-waits s w h among in
+    let was : one_if (is_active (phase_of s.sessions w.session)) ≡ 1 = ap {B = ℕ} one_if (waiting-active _ waits) in
+    omega (arith, active-with w.session phase.Running s.sessions (open_if_live w.session s.sessions (waiting-live _ waits).0), was)
+
 pub in_phase-admitted : (s : State) (w : Waiter) → AreInPhase s → first_entitled s ≡ Some w → AreInPhase (admitted s w)
 in_phase-admitted s w h picked =
     let among = (first_entitled_fits s w picked).0 in
@@ -141,46 +167,38 @@ in_phase-admitted s w h picked =
     record {
       waits = λ n. (in_phase-turn s w found.0 n (eqb w.session n) refl h waits found.1).0;
       runs = λ n. (in_phase-turn s w found.0 n (eqb w.session n) refl h waits found.1).1;
-      live = omega (arith, h.live, live-admitted s w h among, length_push s.running (started s w), length_without (λ (x : Waiter). eqb x.session w.session) found.0 s.waiting found.1);
+      active = omega (arith, h.active, active-admitted s w h among, length_push s.running (started s w), length_without (λ (x : Waiter). eqb x.session w.session) found.0 s.waiting found.1);
       few = omega (arith, h.few, length-with w.session phase.Running s.sessions);
     }
 
-pub room-admitted : (k : ℕ) (s : State) (w : Waiter) → AreInPhase s → HasRoom k s → first_entitled s ≡ Some w → HasRoom k (admitted s w)
-room-admitted k s w h room picked =
+pub room-admitted : (k d : ℕ) (s : State) (w : Waiter) → AreInPhase s → HasRoom k d s → first_entitled s ≡ Some w → HasRoom k d (admitted s w)
+room-admitted k d s w h room picked =
     let live = live-admitted s w h (first_entitled_fits s w picked).0 in
     record {
       kept = omega (arith, room.kept, live, length-with w.session phase.Running s.sessions);
-      statements = room.statements;
+      defined = room.defined;
       sessions = room.sessions;
       queries = room.queries;
     }
 
-pub kept-admitted : (k : ℕ) (s : State) (w : Waiter) → first_entitled s ≡ Some w → AreKept k s → AreKept k (admitted s w)
-kept-admitted k s w picked h = record {
+pub kept-admitted : (k d : ℕ) (s : State) (w : Waiter) → first_entitled s ≡ Some w → AreKept k d s → AreKept k d (admitted s w)
+kept-admitted k d s w picked h = record {
   sound = h.sound;
   covered = covered-admitted s w h.sound h.covered picked;
   in_phase = in_phase-admitted s w h.in_phase picked;
-  room = room-admitted k s w h.in_phase h.room picked;
+  room = room-admitted k d s w h.in_phase h.room picked;
 }
 
 -- what each turn keeps is kept by all of them
-repeated-turn : (P : State → Type 0) (n : ℕ) (s : State) (o : Option Waiter) → first_entitled s ≡ o → P s
-    → ((w : Waiter) → first_entitled s ≡ Some w → P (repeated first_entitled admitted n (admitted s w)))
-    → P (elim o [ Some w ↦ repeated first_entitled admitted n (admitted s w) | None ↦ s ])
-repeated-turn P n s None e p more = p
-repeated-turn P n s (Some w) e p more = more w e
+repeated-turn : (pick : State → Option Waiter) (act : State → Waiter → State) (P : State → Type 0) (n : ℕ) (s : State) (o : Option Waiter) → pick s ≡ o → P s
+    → ((w : Waiter) → pick s ≡ Some w → P (repeated pick act n (act s w)))
+    → P (elim o [ Some w ↦ repeated pick act n (act s w) | None ↦ s ])
+repeated-turn pick act P n s None e p more = p
+repeated-turn pick act P n s (Some w) e p more = more w e
 
-pub repeated-keeps : (P : State → Type 0) → ((s : State) (w : Waiter) → first_entitled s ≡ Some w → P s → P (admitted s w))
-    → (n : ℕ) (s : State) → P s → P (repeated first_entitled admitted n s)
-repeated-keeps P each zero s p = p
-repeated-keeps P each (suc n) s p = repeated-turn P n s (first_entitled s) refl p (λ w e. repeated-keeps P each n (admitted s w) (each s w e p))
-
-pub kept-settled : (k : ℕ) (s : State) → AreKept k s → AreKept k (settled s)
-kept-settled k s h = repeated-keeps (AreKept k) (kept-admitted k) (length s.waiting) s h
-
--- settling changes no journal, no clock, no definitions
-pub journal-settled : (s : State) → (settled s).journal ≡ s.journal
-journal-settled s = repeated-keeps (λ t. t.journal ≡ s.journal) (λ t w e p. p) (length s.waiting) s refl
-
-pub clock-settled : (s : State) → (settled s).clock ≡ s.clock
-clock-settled s = repeated-keeps (λ t. t.clock ≡ s.clock) (λ t w e p. p) (length s.waiting) s refl
+pub repeated-keeps : (pick : State → Option Waiter) (act : State → Waiter → State) (P : State → Type 0)
+    → ((s : State) (w : Waiter) → pick s ≡ Some w → P s → P (act s w))
+    → (n : ℕ) (s : State) → P s → P (repeated pick act n s)
+repeated-keeps pick act P each zero s p = p
+repeated-keeps pick act P each (suc n) s p =
+    repeated-turn pick act P n s (pick s) refl p (λ w e. repeated-keeps pick act P each n (act s w) (each s w e p))

@@ -1,6 +1,6 @@
 -- What is known of the waiting query that is admitted.
 use Rattle.std.proofs.Common.{◌≡◌, Bool, true, false, ◌||◌, cond, List, [], ◌∷◌, ◌++◌, Some, None, refl, sym, ap, ◌∙◌}
-use Rattle.std.specs.List.{list_any}
+use Rattle.std.specs.List.{find, list_any}
 use Rattle.rm_base.specs.Name.{same_name}
 use Rattle.rm_rules.specs.declared.state.Waiter.{Waiter}
 use Rattle.rm_rules.specs.State.{State}
@@ -52,3 +52,13 @@ pub first_entitled_fits : (s : State) (w : Waiter) → first_entitled s ≡ Some
 first_entitled_fits s w picked =
     let among = first_among_fits s false w (heads s.waiting) picked in
     (heads_wait [] s.waiting w among.0, among.1)
+
+-- a query that is found is among those that were searched
+found-turn : (test : Waiter → Bool) (x w : Waiter) (ws : List Waiter) (b : Bool) → cond b (Some x) (find test ws) ≡ Some w
+    → (find test ws ≡ Some w → IsAmong w ws) → IsAmong w (x ∷ ws)
+found-turn test x w ws true found rest = let same : x ≡ w = cc in record { front = []; rest = ws; split = ap (λ y. y ∷ ws) same }
+found-turn test x w ws false found rest = further w x ws (rest found)
+
+pub found_among : (test : Waiter → Bool) (w : Waiter) (ws : List Waiter) → find test ws ≡ Some w → IsAmong w ws
+found_among test w [] found = let none : None ≡ Some w = found in absurd (cc)
+found_among test w (x ∷ ws) found = found-turn test x w ws (test x) found (found_among test w ws)
