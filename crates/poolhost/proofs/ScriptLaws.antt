@@ -206,6 +206,6 @@ one_history words bytes o h =
       | true ↦ tt
       | false ↦ legal-lines first 1 (record { machine = first; names = [] }) (lines bytes) (record { legal = tt; replays = refl })
     ] in
-    let conserved : ConservedAfterEach first (script_with (Some o) bytes).journal = conserved-after-each (fresh o.memory o.cores) SCRIPT_ROOM (script_with (Some o) bytes).journal sound in
+    let conserved : ConservedAfterEach first (script_with (Some o) bytes).journal = conserved-after-each (fresh o.memory o.cores) SCRIPT_ROOM (script_with (Some o) bytes).journal sound legal in
     let both : IsOneHistory o (script_with (Some o) bytes) = record { legal = legal; conserved = conserved } in
     subst (λ (q : Option Options). IsOneHistory o (script_with q bytes)) (sym h) both

@@ -87,7 +87,7 @@ impl Script {
 
     /// Does what a command says.
     fn command(&mut self, alloc: Global, command: Command<'_>) -> Result<Turned, AllocError>
-        ensures { IfOk result (λ t. seen_turn t (seen self.new) ≡ turn (seen self.old) (seen_command command)) }
+        ensures { IfOk result (λ t. seen_turn t (seen self.new) ≡ turn (seen self.old) (seen_command command.entry)) }
     {
         match command {
             Command::Sql(text) => self.sql(alloc, text),
