@@ -264,5 +264,8 @@ fn refused(alloc: Global, refusal: Refusal) -> Result<Turned, AllocError>
 fn is_pool_statement(statement: &Statement) -> bool
     ensures { result ≡ is_pool_statement statement.now }
 {
-    matches!(statement, Statement::CreatePool(..) | Statement::AlterPool(..))
+    matches!(
+        statement,
+        Statement::CreatePool(..) | Statement::AlterPool(..)
+    )
 }
