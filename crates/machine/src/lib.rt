@@ -2,7 +2,7 @@
 #![tactic(auto)]
 
 mod accounts;
-mod budget;
+mod asks;
 pub mod desk;
 mod machine;
 mod queue;

@@ -1,24 +1,22 @@
 -- laws of whole texts
-use Rattle.std.proofs.Common.{◌≡◌, ◌↔◌, ℕ, true, ◌⊎◌, inl, inr, Option, Some, None, Result, Ok, Err, List, [], ◌∷◌, ◌++◌, length, map, refl, sym, ◌∙◌, ap, subst, append-nil}
+use Rattle.std.proofs.Common.{◌≡◌, ◌↔◌, ℕ, true, Option, Some, None, Result, Ok, Err, List, [], ◌∷◌, ◌++◌, map, refl, sym, ◌∙◌, ap, append-nil}
 use Rattle.rm_base.specs.declared.refusal.Refusal.{Refusal}
-use Rattle.rm_base.specs.declared.refusal.Refusal.TheVariants as refusal
 use Rattle.rm_base.specs.declared.statement.Statement.{Statement}
 use Rattle.rm_base.specs.Ranges.{is_statement_in_range}
 use Rattle.rm_words.specs.declared.spans.Span.{Span}
 use Rattle.rm_words.specs.Cut.{AreWords, IsCut}
 use Rattle.rm_words.specs.CutOf.{cut_of}
-use Rattle.rm_words.specs.Token.{Token, token_of}
+use Rattle.rm_words.specs.Token.{token_of}
 use Rattle.rm_words.proofs.CutLaws.{same_cut}
 use Rattle.rm_words.proofs.CutsOf.{cut_of-cut}
 use Rattle.pool_sql.specs.declared.progress.Progress.{Progress}
 use Rattle.pool_sql.specs.declared.progress.Progress.TheVariants.{Start}
 use Rattle.pool_sql.specs.declared.stop.Stop.{Stop}
-use Rattle.pool_sql.specs.declared.stop.Stop.TheVariants as stop
 use Rattle.pool_sql.specs.Grammar.{IsFront, IsWhy, Spells}
 use Rattle.pool_sql.specs.Machine.{Stepped, finish, onward, run, step}
 use Rattle.pool_sql.specs.Right.{IsRight}
-use Rattle.pool_sql.specs.Text.{IsRefused, at_word, at_gap, at_end, IsWellFormed, BeginsText, SpellsText, refusal_at, token_in, tokens_in}
-use Rattle.pool_sql.specs.Reading.{ends, finished, next_word, read_of, read_on}
+use Rattle.pool_sql.specs.Text.{IsRefused, at_word, at_gap, at_end, IsWellFormed, BeginsText, SpellsText, token_in, tokens_in}
+use Rattle.pool_sql.specs.Reading.{finished, next_word, read_of, read_on}
 use Rattle.pool_sql.proofs.Saying.{AllSay-append, said-spells, words_say}
 use Rattle.pool_sql.proofs.Means.{not_err, ok_is}
 use Rattle.pool_sql.proofs.Complete.{run-after, spells-gives}

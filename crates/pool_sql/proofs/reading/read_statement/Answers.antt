@@ -1,4 +1,4 @@
-use Rattle.std.proofs.Common.{◌≡◌, ℕ, Ok, Err, List, ◌∙◌, ap, subst}
+use Rattle.std.proofs.Common.{◌≡◌, ℕ, Ok, List, ◌∙◌, ap, subst}
 use Rattle.rm_base.specs.declared.statement.Statement.{Statement}
 use Rattle.rm_words.specs.declared.spans.Cut.{Cut}
 use Rattle.rm_words.specs.declared.spans.Span.{Span}
