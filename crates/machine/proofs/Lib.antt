@@ -1,8 +1,12 @@
 pub mod Sums
 pub mod Places
+pub mod Ends
+pub mod Turns
 pub mod Seen
 pub mod Heads
 pub mod Settling
 pub mod Submitting
 pub mod Recording
+pub mod Reserves
+pub mod Quiet
 pub mod Keeping

@@ -1,65 +1,128 @@
--- The loop that admits.
-use Rattle.std.proofs.Common.{◌≡◌, ◌<◌, ◌≤◌, ℕ, ◌+◌, zero, suc, eqb, Option, Some, None, List, length, refl, ap, ◌∙◌, sym, subst, arith, count_by, not}
+-- The loop that ends what is too large, and the loop that admits.
+use Rattle.std.proofs.Common.{◌≡◌, ◌<◌, ◌≤◌, ℕ, ◌+◌, zero, suc, eqb, Bool, true, false, cond, Option, Some, None, List, ◌∷◌, length, get_or, drop, refl, ap, ◌∙◌, sym, subst, arith, count_by}
 use Rattle.std.specs.List.{find}
-use Rattle.std.proofs.lemmas.Bool.{eq-eqb}
+use Rattle.std.specs.Option.{option_and_then}
+use Rattle.std.proofs.lemmas.List.{drop_more}
 use Rattle.std.proofs.lemmas.List.Sums.{count_by-le-length}
 use Rattle.rm_base.specs.declared.limits.TheConstants.{SESSIONS_MOST}
+use Rattle.rm_base.specs.declared.refusal.CapKind.{CapKind}
+use Rattle.rm_base.specs.declared.refusal.Refusal.{Refusal}
+use Rattle.rm_base.specs.declared.refusal.Refusal.TheVariants as refusal
+use Rattle.rm_base.specs.declared.reply.End.{End}
+use Rattle.rm_base.specs.declared.reply.End.TheVariants as end
 use Rattle.rm_rules.specs.declared.state.Waiter.{Waiter}
 use Rattle.rm_rules.specs.declared.state.Session.{Session}
-use Rattle.rm_rules.specs.State.{State, is_idle}
-use Rattle.rm_rules.specs.Admission.{first_entitled, admitted, repeated, settled}
+use Rattle.rm_rules.specs.Definitions.{pool_row}
+use Rattle.rm_rules.specs.Budget.{is_too_large}
+use Rattle.rm_rules.specs.State.{State, is_active}
+use Rattle.rm_rules.specs.Admission.{first_entitled, admitted, repeated, admission}
+use Rattle.rm_rules.specs.Settle.{ended_as, first_too_large, too_large_end, ended_too_large, without_too_large}
 use Rattle.rm_rules.specs.Sound.{IsSound}
-use Rattle.rm_rules.specs.Healthy.{IsCovered, AreInPhase}
-use Rattle.rm_rules.proofs.Taken.{length_without, found_counted, counted_among}
+use Rattle.rm_rules.specs.Healthy.{IsHeld, IsCovered, AreInPhase}
+use Rattle.rm_rules.proofs.Taken.{length_without}
 use Rattle.rm_rules.proofs.Queue.{IsAmong, first_entitled_fits}
-use Rattle.rm_rules.proofs.Moving.{covered-admitted, in_phase-admitted}
+use Rattle.rm_rules.proofs.Moving.{waiter_found, covered-admitted, in_phase-admitted}
+use Rattle.rm_rules.proofs.Ending.{held-ended, in_phase-ended}
+use Rattle.rm_rules.proofs.Settling.{too_large-among}
+use Rattle.machine.specs.Settling.{end_by, if_ends}
 
--- so far the state settles as the first one does, and keeps what admission needs
-pub record Settles (first s : State) : Type 0 where
-  pub same : settled s ≡ settled first
+-- so many turns are enough
+repeated-some : (pick : State → Option Waiter) (act : State → Waiter → State) (s : State) (w : Waiter) (n m : ℕ) → pick s ≡ Some w → m + 1 ≡ n → repeated pick act n s ≡ repeated pick act m (act s w)
+repeated-some pick act s w zero m picked fuel = absurd (omega arith)
+repeated-some pick act s w (suc n) m picked fuel =
+    let same : n ≡ m = omega arith in
+    ap (λ (o : Option Waiter). elim o [ Some v ↦ repeated pick act n (act s v) | None ↦ s ]) picked
+    ∙ ap (λ (k : ℕ). repeated pick act k (act s w)) same
+
+repeated-none : (pick : State → Option Waiter) (act : State → Waiter → State) (s : State) (n : ℕ) → (let o : Option Waiter = None in pick s ≡ o) → repeated pick act n s ≡ s
+repeated-none pick act s zero nothing = refl
+repeated-none pick act s (suc n) nothing = ap (λ (o : Option Waiter). elim o [ Some v ↦ repeated pick act n (act s v) | None ↦ s ]) nothing
+
+-- one waits less
+waits-less : (s : State) (w : Waiter) → IsAmong w s.waiting → (t : State) → t.waiting ≡ (admitted s w).waiting → length t.waiting + 1 ≡ length s.waiting
+waits-less s w among t same =
+    let found = waiter_found s w among in
+    omega (arith, length_without (λ (x : Waiter). eqb x.session w.session) found.0 s.waiting found.1, ap (λ (ws : List Waiter). length ws) same)
+
+-- how a waiting query ends that is too large
+by-turn : (b : Bool) (which : CapKind) (floor bytes : ℕ)
+    → option_and_then end_by (cond b (Some (refusal.TooLarge which floor bytes)) None) ≡ cond b (Some (end.TooLarge which floor bytes)) None
+by-turn true which floor bytes = refl
+by-turn false which floor bytes = refl
+
+some-turn : (b : Bool) (e f : End) → cond b (Some e) None ≡ Some f → (b ≡ true) × (e ≡ f)
+some-turn true e f found = (refl, cc)
+some-turn false e f found = absurd (cc)
+
+none-turn : (b : Bool) (e : End) → let o : Option End = None in cond b (Some e) o ≡ o → b ≡ false
+none-turn true e found = absurd (cc)
+none-turn false e found = refl
+
+abbrev is_large : State → Waiter → Bool
+is_large s w = is_too_large s.definitions (pool_row s.definitions w.pool) w.user w.floor
+
+pub ends-large : (s : State) (w : Waiter) (e : End) → if_ends s w ≡ Some e → (is_large s w ≡ true) × (too_large_end s w ≡ e)
+ends-large s w e found = some-turn (is_large s w) (too_large_end s w) e found
+
+pub stays-small : (s : State) (w : Waiter) → (let o : Option End = None in if_ends s w ≡ o) → is_large s w ≡ false
+stays-small s w found = none-turn (is_large s w) (too_large_end s w) found
+
+-- the search for the first that is too large
+pub large-passes : (s : State) (ws : List Waiter) (i : ℕ) (w : Waiter) → i < length ws → w ≡ get_or ws i w → is_large s w ≡ false → find (is_large s) (drop (i + 1) ws) ≡ find (is_large s) (drop i ws)
+large-passes s ws i w within at small =
+    let rest = find (is_large s) (drop (i + 1) ws) in
+    sym (ap (λ (xs : List Waiter). find (is_large s) xs) (drop_more ws i w within ∙ ap (λ (x : Waiter). x ∷ drop (i + 1) ws) (sym at)) ∙ ap (λ (b : Bool). cond b (Some w) rest) small)
+
+pub large-found : (s : State) (ws : List Waiter) (i : ℕ) (w : Waiter) → i < length ws → w ≡ get_or ws i w → is_large s w ≡ true → find (is_large s) (drop i ws) ≡ Some w
+large-found s ws i w within at large =
+    let rest = find (is_large s) (drop (i + 1) ws) in
+    ap (λ (xs : List Waiter). find (is_large s) xs) (drop_more ws i w within ∙ ap (λ (x : Waiter). x ∷ drop (i + 1) ws) (sym at)) ∙ ap (λ (b : Bool). cond b (Some w) rest) large
+
+-- so far the state leads where the first one does, and keeps what ends need
+pub record Ends (first s : State) : Type 0 where
+  pub same : without_too_large s ≡ without_too_large first
+  pub sound : IsSound s.definitions
+  pub held : IsHeld s
+  pub in_phase : AreInPhase s
+
+pub waiting-ended : (s : State) (w : Waiter) (e : End) → first_too_large s ≡ Some w → length (ended_as e s w).waiting + 1 ≡ length s.waiting
+waiting-ended s w e found = waits-less s w (too_large-among s w found) (ended_as e s w) refl
+
+pub ends-one : (first s : State) (w : Waiter) (e : End) → first_too_large s ≡ Some w → if_ends s w ≡ Some e → Ends first s → Ends first (ended_as e s w)
+ends-one first s w e found ends h =
+    let same : ended_too_large s w ≡ ended_as e s w = ap (λ (x : End). ended_as x s w) (ends-large s w e ends).1 in
+    subst (Ends first) same (record {
+      same = sym (repeated-some first_too_large ended_too_large s w (length s.waiting) (length (ended_too_large s w).waiting) found (waiting-ended s w (too_large_end s w) found)) ∙ h.same;
+      sound = h.sound;
+      held = held-ended (too_large_end s w) s w h.held;
+      in_phase = in_phase-ended (too_large_end s w) s w h.in_phase (too_large-among s w found);
+    })
+
+pub ends-none : (s : State) → (let o : Option Waiter = None in first_too_large s ≡ o) → without_too_large s ≡ s
+ends-none s nothing = repeated-none first_too_large ended_too_large s (length s.waiting) nothing
+
+-- so far the state leads where the first one does, and keeps what admission needs
+pub record Admits (first s : State) : Type 0 where
+  pub same : admission s ≡ admission first
   pub sound : IsSound s.definitions
   pub covered : IsCovered s
   pub in_phase : AreInPhase s
 
-waiter_found : (w : Waiter) (ws : List Waiter) → IsAmong w ws → (y : Waiter) × (find (λ (x : Waiter). eqb x.session w.session) ws ≡ Some y)
-waiter_found w ws among =
-    found_counted (λ (x : Waiter). eqb x.session w.session) ws
-    (subst (λ (l : List Waiter). 1 ≤ count_by (λ x. eqb x.session w.session) l) (sym among.split)
-    (counted_among (λ x. eqb x.session w.session) among.front among.rest w (eq-eqb w.session w.session refl)))
-
--- one waits less
 pub waiting-admitted : (s : State) (w : Waiter) → first_entitled s ≡ Some w → length (admitted s w).waiting + 1 ≡ length s.waiting
-waiting-admitted s w picked =
-    let found = waiter_found w s.waiting (first_entitled_fits s w picked).0 in
-    length_without (λ (x : Waiter). eqb x.session w.session) found.0 s.waiting found.1
+waiting-admitted s w picked = waits-less s w (first_entitled_fits s w picked).0 (admitted s w) refl
 
 -- one more may run
 pub room-entitled : (s : State) (w : Waiter) → AreInPhase s → first_entitled s ≡ Some w → length s.running < SESSIONS_MOST
 room-entitled s w h picked =
-    omega (arith, h.live, h.few, waiting-admitted s w picked, count_by-le-length (λ (x : Session). not (is_idle x.phase)) s.sessions)
+    omega (arith, h.active, h.few, waiting-admitted s w picked, count_by-le-length (λ (x : Session). is_active x.phase) s.sessions)
 
--- so many turns are enough
-repeated-some : (s : State) (w : Waiter) (n m : ℕ) → first_entitled s ≡ Some w → m + 1 ≡ n → repeated first_entitled admitted n s ≡ repeated first_entitled admitted m (admitted s w)
-repeated-some s w zero m picked fuel = absurd (omega arith)
-repeated-some s w (suc n) m picked fuel =
-    let same : n ≡ m = omega arith in
-    ap (λ (o : Option Waiter). elim o [ Some v ↦ repeated first_entitled admitted n (admitted s v) | None ↦ s ]) picked
-    ∙ ap (λ (k : ℕ). repeated first_entitled admitted k (admitted s w)) same
-
-pub settled-admitted : (s : State) (w : Waiter) → first_entitled s ≡ Some w → settled (admitted s w) ≡ settled s
-settled-admitted s w picked = sym (repeated-some s w (length s.waiting) (length (admitted s w).waiting) picked (waiting-admitted s w picked))
-
-repeated-none : (s : State) (n : ℕ) → (let o : Option Waiter = None in first_entitled s ≡ o) → repeated first_entitled admitted n s ≡ s
-repeated-none s zero nothing = refl
-repeated-none s (suc n) nothing = ap (λ (o : Option Waiter). elim o [ Some v ↦ repeated first_entitled admitted n (admitted s v) | None ↦ s ]) nothing
-
-pub settled-none : (s : State) → (let o : Option Waiter = None in first_entitled s ≡ o) → settled s ≡ s
-settled-none s nothing = repeated-none s (length s.waiting) nothing
-
-pub settles-admitted : (first s : State) (w : Waiter) → first_entitled s ≡ Some w → Settles first s → Settles first (admitted s w)
-settles-admitted first s w picked h = record {
-  same = settled-admitted s w picked ∙ h.same;
+pub admits-one : (first s : State) (w : Waiter) → first_entitled s ≡ Some w → Admits first s → Admits first (admitted s w)
+admits-one first s w picked h = record {
+  same = sym (repeated-some first_entitled admitted s w (length s.waiting) (length (admitted s w).waiting) picked (waiting-admitted s w picked)) ∙ h.same;
   sound = h.sound;
   covered = covered-admitted s w h.sound h.covered picked;
   in_phase = in_phase-admitted s w h.in_phase picked;
 }
+
+pub admission-none : (s : State) → (let o : Option Waiter = None in first_entitled s ≡ o) → admission s ≡ s
+admission-none s nothing = repeated-none first_entitled admitted s (length s.waiting) nothing

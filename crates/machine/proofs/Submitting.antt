@@ -7,10 +7,12 @@ use Rattle.rm_base.specs.declared.limits.TheConstants.{SESSIONS_MOST}
 use Rattle.rm_base.specs.declared.name.Name.{Name}
 use Rattle.rm_base.specs.declared.refusal.Refusal.{Refusal}
 use Rattle.rm_base.specs.declared.refusal.Refusal.TheVariants as refusal
+use Rattle.rm_rules.specs.declared.state.Phase.{Phase}
+use Rattle.rm_rules.specs.declared.state.Phase.TheVariants as phase
 use Rattle.rm_rules.specs.declared.state.Session.{Session}
 use Rattle.rm_rules.specs.Definitions.{pool_row, user_called, usage}
 use Rattle.rm_rules.specs.Budget.{is_too_large, too_large}
-use Rattle.rm_rules.specs.State.{State, session_called, is_idle, live_queries}
+use Rattle.rm_rules.specs.State.{State, session_called, is_idle, is_active, live_queries}
 use Rattle.rm_rules.specs.Change.{Answer, Change, is_journal_full, submitted, submitting_to}
 use Rattle.rm_rules.specs.Healthy.{AreInPhase}
 use Rattle.machine.specs.Refusals.{user_refusal, size_refusal}
@@ -78,14 +80,21 @@ fewer p q y [] found fails = let none : None ≡ Some y = found in absurd (cc)
 fewer p q y (x ∷ xs) found fails = fewer-turn p q x y xs (q x) found fails (λ later. fewer p q y xs later fails)
 
 -- a query more may wait while a session is idle
+idle-rests : (p : Phase) → is_idle p ≡ true → is_active p ≡ false
+idle-rests phase.Idle idle = refl
+idle-rests phase.Waiting idle = absurd (cc)
+idle-rests phase.Running idle = absurd (cc)
+idle-rests (phase.Ended end) idle = absurd (cc)
+
 pub room_waiting : (s : State) (x : Session) (pool : Name) → AreInPhase s → session_called s.sessions x.number ≡ Some x → (let n : Option Refusal = None in user_refusal s x pool ≡ n) → length s.waiting < SESSIONS_MOST
 room_waiting s x pool h found accepted =
-    let idle : not (is_idle x.phase) ≡ false = ap not (not_refused (is_idle x.phase) refusal.SessionBusy _ accepted) in
-    omega (arith, h.live, h.few, fewer (λ (y : Session). not (is_idle y.phase)) (λ (y : Session). nat_eq y.number x.number) x s.sessions found idle)
+    let rests : is_active x.phase ≡ false = idle-rests x.phase (not_refused (is_idle x.phase) refusal.SessionBusy _ accepted) in
+    omega (arith, h.active, h.few, fewer (λ (y : Session). is_active y.phase) (λ (y : Session). nat_eq y.number x.number) x s.sessions found rests)
 
 -- a change by its parts
-pub change-parts : (c : Change) (t : State) (a : Answer) → t ≡ c.state → a ≡ c.answer → (let x : Result Change Refusal = Ok c in x) ≡ Ok (record { state = t; answer = a })
-change-parts c t a state answer =
-    let first : c ≡ record { state = t; answer = c.answer } = ap (λ (u : State). let d : Change = record { state = u; answer = c.answer } in d) (sym state) in
-    let second = ap (λ (b : Answer). let d : Change = record { state = t; answer = b } in d) (sym answer) in
-    ap (λ (d : Change). let x : Result Change Refusal = Ok d in x) (first ∙ second)
+pub change-parts : (c : Change) (t : State) (a : Answer) → t ≡ c.state → a ≡ c.answer → c.changed ≡ true → (let x : Result Change Refusal = Ok c in x) ≡ Ok (record { state = t; answer = a; changed = true })
+change-parts c t a state answer changed =
+    let first : c ≡ record { state = t; answer = c.answer; changed = c.changed } = ap (λ (u : State). let d : Change = record { state = u; answer = c.answer; changed = c.changed } in d) (sym state) in
+    let second = ap (λ (b : Answer). let d : Change = record { state = t; answer = b; changed = c.changed } in d) (sym answer) in
+    let third = ap (λ (b : Bool). let d : Change = record { state = t; answer = a; changed = b } in d) changed in
+    ap (λ (d : Change). let x : Result Change Refusal = Ok d in x) (first ∙ second ∙ third)

@@ -1,9 +1,10 @@
--- How an accepted event is answered.
+-- How an event that is not refused is answered.
 use Rattle.std.specs.Prelude.{ℕ, ◌==◌, not, take_while}
 use Rattle.rm_base.specs.declared.entry.Account.{Account}
 use Rattle.rm_rules.specs.declared.state.Runner.{Runner}
 use Rattle.rm_rules.specs.State.{State}
 use Rattle.rm_rules.specs.Accounting.{account_behind}
+use Rattle.machine.specs.declared.told.Done.{Done}
 use Rattle.machine.specs.declared.told.Told.{Told}
 use Rattle.machine.specs.declared.told.Told.TheVariants as told
 use Rattle.rm_rules.specs.Change.{Answer, Says, Tells, Change}
@@ -13,8 +14,8 @@ answer_of (told.Says reply) = Says reply
 answer_of (told.Tells session) = Tells session
 
 -- the change to this state, with this answer
-abbrev pub change_to : State → Told → Change
-change_to s told = record { state = s; answer = answer_of told }
+abbrev pub change_to : State → Done → Change
+change_to s done = record { state = s; answer = answer_of done.told; changed = done.changed }
 
 -- the account of a session's running query
 abbrev pub account_of : State → ℕ → Runner → Account

@@ -2,4 +2,5 @@ pub mod Accounts
 pub mod Capacity
 pub mod Answers
 pub mod Refusals
+pub mod Settling
 pub mod Desk

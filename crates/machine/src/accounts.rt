@@ -66,7 +66,7 @@ pub fn user_pools(pools: &[PoolRow]) -> &[PoolRow]
 }
 
 /// How much of its own bytes the pool uses.
-fn own(running: &[Runner], row: &PoolRow, actual: u64) -> u64
+pub fn own(running: &[Runner], row: &PoolRow, actual: u64) -> u64
     requires { granted running.now < 2 ^ 64 }
     ensures value { result ≡ own running.now (row.now, actual) }
     ensures within { result ≤ actual }
@@ -75,9 +75,10 @@ fn own(running: &[Runner], row: &PoolRow, actual: u64) -> u64
 }
 
 /// What the pool has borrowed beyond its own bytes.
-fn debt(running: &[Runner], row: &PoolRow, actual: u64) -> u64
+pub fn debt(running: &[Runner], row: &PoolRow, actual: u64) -> u64
     requires { granted running.now < 2 ^ 64 }
-    ensures { result ≡ debt running.now (row.now, actual) }
+    ensures value { result ≡ debt running.now (row.now, actual) }
+    ensures most { result ≤ granted running.now }
 {
     used(running, row.name) - own(running, row, actual)
 }

@@ -28,7 +28,7 @@ impl Model for Desk {
 
 impl Desk {
     ghost use Rattle.rm_rules.specs.State.{start};
-    ghost use Rattle.rm_rules.specs.Step.{step, replay, IsLegal};
+    ghost use Rattle.rm_rules.specs.Step.{step, replay, IsFormed, IsLegal};
     ghost use Rattle.rm_rules.specs.Sound.{IsSound};
     ghost use Rattle.rm_rules.specs.Healthy.{IsHealthy};
     ghost use Rattle.rm_rules.specs.Conserved.{ConservedAfterEach};
@@ -47,6 +47,7 @@ impl Desk {
 
     /// One event of a seat, at the moment or the clock, the later of them. Nothing here can fail for want of memory.
     pub fn apply(&mut self, seat: u32, at: Moment, event: &Event) -> Answered
+        requires formed { IsFormed event.now }
         ensures state { self.new ≡ record self.old { state = (step self.old.state seat at event.now).state } }
         ensures reply { result.reply ≡ (step self.old.state seat at event.now).reply }
         ensures entry { result.entry ≡ (step self.old.state seat at event.now).entry }
@@ -68,7 +69,8 @@ impl Desk {
 
     /// The definitions in force.
     pub fn definitions(&self) -> &Definitions
-        ensures { result.now ≡ self.now.state.definitions }
+        ensures value { result.now ≡ self.now.state.definitions }
+        ensures sound { IsSound result.now }
     {
         self.machine.definitions()
     }

@@ -3,9 +3,11 @@
 
 mod accounts;
 mod asks;
+mod counters;
 pub mod desk;
 mod machine;
 mod queue;
 mod sessions;
+mod sizes;
 mod told;
 mod users;

@@ -5,6 +5,7 @@ ghost use Rattle.rm_rules.specs.Definitions.{user_pools};
 ghost use Rattle.rm_rules.specs.State.{no_ends, is_defined};
 
 use crate::accounts::user_pools;
+use crate::counters::none_ended;
 use crate::told::Told;
 use budgets::total;
 use rm_base::definitions::Definitions;
@@ -12,16 +13,19 @@ use rm_base::entry::{Answered, EndCounts, Entry, MoveSeen};
 use rm_base::event::Event;
 use rm_base::limits::{CHANGES_MOST, MOVES_KEPT, POOLS_MOST, SESSIONS_MOST};
 use rm_base::moment::Moment;
-use rm_base::refusal::Refusal;
 use rm_base::reply::Reply;
 use rm_base::rows::PoolRow;
 use rm_rules::state::{Runner, Session, Waiter};
 use std::alloc::{AllocError, Global};
 use std::marker::Model;
 
+mod choosing;
+mod defining;
 mod events;
 mod fit;
+mod polling;
 mod settle;
+mod shuffle;
 mod told;
 
 /// How many entries the journal holds beyond its room and those of accepted statements, for queries that make more
@@ -80,11 +84,7 @@ fn no_ends(alloc: Global, pools: &[PoolRow]) -> Result<Vec<EndCounts>, AllocErro
 {
     let mut counters = Vec::with_capacity(alloc, POOLS_MOST)?;
     for _row in pools {
-        counters.push_reserved(EndCounts {
-            timedout: 0,
-            toolarge: 0,
-            cancelled: 0,
-        });
+        counters.push_reserved(none_ended());
     }
     Ok(counters)
 }
@@ -99,10 +99,10 @@ fn is_defined(reply: &Reply) -> bool
 impl Machine {
     ghost use Rattle.rm_rules.specs.State.{start, counted_entries};
     ghost use Rattle.rm_rules.specs.Change.{reply_of};
-    ghost use Rattle.rm_rules.specs.Admission.{settled};
-    ghost use Rattle.rm_rules.specs.Step.{moved_to, recorded, accepted, step};
+    ghost use Rattle.rm_rules.specs.Settle.{settled};
+    ghost use Rattle.rm_rules.specs.Step.{moved_to, recorded, accepted, step, IsFormed};
     ghost use Rattle.rm_rules.specs.Sound.{IsSound};
-    ghost use Rattle.rm_rules.specs.Healthy.{IsCovered, AreInPhase, HasRoom, IsHealthy};
+    ghost use Rattle.rm_rules.specs.Healthy.{IsHealthy, IsUnsettled};
     ghost use Rattle.machine.specs.Answers.{answer_of};
 
     /// The machine at the start. It takes all memory that it will ever use.
@@ -156,16 +156,16 @@ impl Machine {
         before
     }
 
-    /// A refused event leaves the clock as it was before it.
-    fn refuse(&mut self, before: Moment, refusal: Refusal) -> Answered
+    /// An event that changed nothing leaves the clock as it was before it, too.
+    fn leave(&mut self, before: Moment, reply: Reply) -> Answered
         ensures state { self.new ≡ record self.old { clock = before } }
-        ensures reply { result.reply ≡ Reply.Refused refusal }
+        ensures reply { result.reply ≡ reply }
         ensures entry { result.entry ≡ false }
         ensures place { result.place ≡ length self.new.journal }
     {
         self.clock = before;
         Answered {
-            reply: Reply::Refused(refusal),
+            reply,
             place: self.journal.len() as u64,
             entry: false,
         }
@@ -174,7 +174,7 @@ impl Machine {
     /// One entry more.
     fn record_entry(&mut self, entry: Entry)
         requires room { length self.old.journal < self.old.room + ENTRIES_BEYOND + CHANGES_MOST }
-        requires counted { counted_entries self.old.journal < self.old.room }
+        requires counted { is_defined entry.reply ≡ false → counted_entries self.old.journal < self.old.room }
         ensures { self.new ≡ recorded self.old entry }
     {
         if !is_defined(&entry.reply) {
@@ -185,10 +185,7 @@ impl Machine {
 
     /// What changed settles, and the entry is made.
     fn accept(&mut self, seat: u32, event: &Event, told: Told) -> Answered
-        requires sound { IsSound self.old.definitions }
-        requires covered { IsCovered self.old }
-        requires in_phase { AreInPhase self.old }
-        requires room { HasRoom 1 self.old }
+        requires { IsUnsettled (answer_of told) self.old }
         ensures state { let s = settled self.old in
             self.new ≡ (accepted seat event.now s (reply_of s (answer_of told))).state }
         ensures reply { result.reply ≡ reply_of (settled self.old) (answer_of told) }
@@ -210,9 +207,22 @@ impl Machine {
         }
     }
 
+    /// An event that changed nothing is told how things stand.
+    fn answer(&mut self, before: Moment, told: Told) -> Answered
+        requires { IsHealthy self.old }
+        ensures state { self.new ≡ record self.old { clock = before } }
+        ensures reply { result.reply ≡ reply_of self.old (answer_of told) }
+        ensures entry { result.entry ≡ false }
+        ensures place { result.place ≡ length self.new.journal }
+    {
+        let reply = self.reply_of(told);
+        self.leave(before, reply)
+    }
+
     /// One event.
     pub fn apply(&mut self, seat: u32, at: Moment, event: &Event) -> Answered
-        requires { IsHealthy self.old }
+        requires healthy { IsHealthy self.old }
+        requires formed { IsFormed event.now }
         ensures state { self.new ≡ (step self.old seat at event.now).state }
         ensures reply { result.reply ≡ (step self.old seat at event.now).reply }
         ensures entry { result.entry ≡ (step self.old seat at event.now).entry }
@@ -220,8 +230,14 @@ impl Machine {
     {
         let before = self.move_to(at);
         match self.change(seat, event) {
-            Ok(told) => self.accept(seat, event, told),
-            Err(refusal) => self.refuse(before, refusal),
+            Ok(done) => {
+                if done.changed {
+                    self.accept(seat, event, done.told)
+                } else {
+                    self.answer(before, done.told)
+                }
+            }
+            Err(refusal) => self.leave(before, Reply::Refused(refusal)),
         }
     }
 }

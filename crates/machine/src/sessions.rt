@@ -1,8 +1,9 @@
 //! Sessions, and the queries of a session.
 ghost use Rattle.std.specs.Prelude.{◌≡◌, ◌<◌, ◌≤◌, ◌+◌, ◌^◌, ◌==◌, IfSome, position, length, vec_capacity};
-ghost use Rattle.rm_rules.specs.State.{session_called, with_phase, without_waiter, without_runner, is_idle, is_running, live_queries};
-ghost use Rattle.rm_rules.specs.Change.{runner_of, waiter_of, place_of};
+ghost use Rattle.rm_rules.specs.State.{session_called, with_phase, with_choice, without_waiter, without_runner, is_idle, is_running, live_queries};
+ghost use Rattle.rm_rules.specs.Change.{has_chosen, runner_of, waiter_of, place_of};
 
+use rm_base::name::Name;
 use rm_rules::state::{Phase, Runner, Session, Waiter};
 
 pub fn session_called(sessions: &[Session], number: u32) -> Option<Session>
@@ -53,6 +54,25 @@ pub fn set_phase(sessions: &mut [Session], number: u32, now: Phase)
 {
     if let Some(place) = place_of_session(sessions, number) {
         sessions[place].phase = now;
+    }
+}
+
+/// The session has chosen this pool.
+pub fn has_chosen(x: &Session, pool: Name) -> bool
+    ensures { result ≡ has_chosen x.now pool }
+{
+    match x.pool {
+        Some(chosen) => chosen.same(pool),
+        None => false,
+    }
+}
+
+/// The session of this number chooses this pool.
+pub fn choose(sessions: &mut [Session], number: u32, pool: Name)
+    ensures { sessions.new ≡ with_choice number pool sessions.old }
+{
+    if let Some(place) = place_of_session(sessions, number) {
+        sessions[place].pool = Some(pool);
     }
 }
 

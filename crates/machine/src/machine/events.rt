@@ -7,7 +7,7 @@ use crate::asks::if_too_large;
 use crate::sessions::{
     is_idle, is_running, live_queries, runner_of, session_called, set_phase, take_runner,
 };
-use crate::told::Told;
+use crate::told::{Done, Told};
 use crate::users::{default_pool, usage, user_called};
 use rm_base::event::Event;
 use rm_base::limits::{ENTRIES_A_QUERY, ENTRIES_A_SESSION, SESSIONS_MOST};
@@ -23,10 +23,11 @@ impl Machine {
     ghost use Rattle.rm_rules.specs.Change.{is_journal_full, opening, submitted, submitting_to, submitting, finishing, change};
     ghost use Rattle.machine.specs.Refusals.{if_too_large, user_refusal, size_refusal};
     ghost use Rattle.rm_rules.specs.Healthy.{IsHealthy};
+    ghost use Rattle.rm_rules.specs.Step.{IsFormed};
     ghost use Rattle.machine.specs.Answers.{answer_of, change_to};
 
     /// The session of this number, where the seat has opened it.
-    fn session_of(&self, seat: u32, number: u32) -> Option<Session>
+    pub fn session_of(&self, seat: u32, number: u32) -> Option<Session>
         ensures { result ≡ session_of self.now seat number }
     {
         session_called(&self.sessions, number).and_then(|x| if x.seat == seat {
@@ -47,7 +48,7 @@ impl Machine {
     }
 
     /// The least cap on a query of this user in the pool, where the floor is above it.
-    fn if_too_large(&self, pool: Name, user: Name, floor: u64) -> Option<Refusal>
+    pub fn if_too_large(&self, pool: Name, user: Name, floor: u64) -> Option<Refusal>
         requires { IsSound self.now.definitions }
         ensures { result ≡ if_too_large self.now.definitions (pool_row self.now.definitions pool) user floor }
     {
@@ -55,7 +56,7 @@ impl Machine {
     }
 
     /// With one entry more, the journal would not keep free what so many live queries and open sessions may still need.
-    fn is_journal_full(&self, live: usize, sessions: usize) -> bool
+    pub fn is_journal_full(&self, live: usize, sessions: usize) -> bool
         requires live { live ≤ 2 * SESSIONS_MOST }
         requires sessions { sessions ≤ 2 * SESSIONS_MOST }
         ensures value { result ≡ is_journal_full self.now live sessions }
@@ -66,9 +67,9 @@ impl Machine {
     }
 
     /// A new session of this user, opened by this seat.
-    fn opening(&mut self, seat: u32, user: Name) -> Result<Told, Refusal>
+    fn opening(&mut self, seat: u32, user: Name) -> Result<Done, Refusal>
         requires { IsHealthy self.old }
-        ensures ok { IfOk result (λ told. opening self.old seat user ≡ Ok (change_to self.new told)) }
+        ensures ok { IfOk result (λ done. opening self.old seat user ≡ Ok (change_to self.new done)) }
         ensures err { IfErr result (λ refusal. opening self.old seat user ≡ Err refusal) }
         ensures kept { OnErr result (self.new ≡ self.old) }
     {
@@ -91,7 +92,10 @@ impl Machine {
             phase: Phase::Idle,
         });
         self.last_session = number;
-        Ok(Told::Says(Reply::Opened(number)))
+        Ok(Done {
+            told: Told::Says(Reply::Opened(number)),
+            changed: true,
+        })
     }
 
     fn has_user(&self, user: Name) -> bool
@@ -100,7 +104,7 @@ impl Machine {
         user_called(self.definitions.users.rows(), user).is_some()
     }
 
-    fn has_usage(&self, user: Name, pool: Name) -> bool
+    pub fn has_usage(&self, user: Name, pool: Name) -> bool
         ensures { result ≡ usage self.now.definitions user pool }
     {
         usage(&self.definitions, user, pool)
@@ -161,11 +165,11 @@ impl Machine {
     }
 
     /// A new query of this session in this pool.
-    fn submitting_to(&mut self, x: &Session, pool: Name, floor: u64) -> Result<Told, Refusal>
+    fn submitting_to(&mut self, x: &Session, pool: Name, floor: u64) -> Result<Done, Refusal>
         requires healthy { IsHealthy self.old }
         requires found { session_called self.old.sessions x.now.number ≡ Some x.now }
-        ensures ok { IfOk result (λ told.
-            submitting_to self.old x.now pool floor ≡ Ok (change_to self.new told)) }
+        ensures ok { IfOk result (λ done.
+            submitting_to self.old x.now pool floor ≡ Ok (change_to self.new done)) }
         ensures err { IfErr result (λ refusal. submitting_to self.old x.now pool floor ≡ Err refusal) }
         ensures kept { OnErr result (self.new ≡ self.old) }
     {
@@ -175,14 +179,18 @@ impl Machine {
         if let Some(refusal) = self.size_refusal(x, pool, floor) {
             return Err(refusal);
         }
-        Ok(self.submit(x, pool, floor))
+        let told = self.submit(x, pool, floor);
+        Ok(Done {
+            told,
+            changed: true,
+        })
     }
 
     /// A new query of this session, in the session's pool.
-    fn submitting(&mut self, seat: u32, session: u32, floor: u64) -> Result<Told, Refusal>
+    fn submitting(&mut self, seat: u32, session: u32, floor: u64) -> Result<Done, Refusal>
         requires { IsHealthy self.old }
-        ensures ok { IfOk result (λ told.
-            submitting self.old (session_of self.old seat session) floor ≡ Ok (change_to self.new told)) }
+        ensures ok { IfOk result (λ done.
+            submitting self.old (session_of self.old seat session) floor ≡ Ok (change_to self.new done)) }
         ensures err { IfErr result (λ refusal.
             submitting self.old (session_of self.old seat session) floor ≡ Err refusal) }
         ensures kept { OnErr result (self.new ≡ self.old) }
@@ -195,9 +203,9 @@ impl Machine {
     }
 
     /// The session's query ends, and its grant is given back.
-    fn finishing(&mut self, seat: u32, session: u32) -> Result<Told, Refusal>
-        ensures ok { IfOk result (λ told.
-            finishing self.old (session_of self.old seat session) ≡ Ok (change_to self.new told)) }
+    fn finishing(&mut self, seat: u32, session: u32) -> Result<Done, Refusal>
+        ensures ok { IfOk result (λ done.
+            finishing self.old (session_of self.old seat session) ≡ Ok (change_to self.new done)) }
         ensures err { IfErr result (λ refusal.
             finishing self.old (session_of self.old seat session) ≡ Err refusal) }
         ensures kept { OnErr result (self.new ≡ self.old) }
@@ -213,20 +221,27 @@ impl Machine {
         }
         set_phase(&mut self.sessions, x.number, Phase::Idle);
         take_runner(&mut self.running, x.number);
-        Ok(Told::Says(Reply::Released(r.grant)))
+        Ok(Done {
+            told: Told::Says(Reply::Released(r.grant)),
+            changed: true,
+        })
     }
 
     /// What the event changes, or why it is refused.
-    pub fn change(&mut self, seat: u32, event: &Event) -> Result<Told, Refusal>
-        requires { IsHealthy self.old }
-        ensures ok { IfOk result (λ told. change self.old seat event.now ≡ Ok (change_to self.new told)) }
+    pub fn change(&mut self, seat: u32, event: &Event) -> Result<Done, Refusal>
+        requires healthy { IsHealthy self.old }
+        requires formed { IsFormed event.now }
+        ensures ok { IfOk result (λ done. change self.old seat event.now ≡ Ok (change_to self.new done)) }
         ensures err { IfErr result (λ refusal. change self.old seat event.now ≡ Err refusal) }
         ensures kept { OnErr result (self.new ≡ self.old) }
     {
-        match *event {
-            Event::Open { user } => self.opening(seat, user),
-            Event::Submit { session, floor } => self.submitting(seat, session, floor),
-            Event::Finish { session } => self.finishing(seat, session),
+        match event {
+            Event::Define(statement) => self.defining(statement),
+            Event::Open { user } => self.opening(seat, *user),
+            Event::SetPool { session, pool } => self.choosing(seat, *session, *pool),
+            Event::Submit { session, floor } => self.submitting(seat, *session, *floor),
+            Event::Poll { session } => self.polling(seat, *session),
+            Event::Finish { session } => self.finishing(seat, *session),
         }
     }
 }

@@ -16,12 +16,12 @@ impl Machine {
     ghost use Rattle.rm_rules.specs.Accounting.{used, own_of, unused_of, lent, free};
     ghost use Rattle.rm_rules.specs.Admission.{judged, ask_of, judged_for, need, can_lend, poolfit, first_entitled};
     ghost use Rattle.rm_rules.specs.Sound.{IsSound};
-    ghost use Rattle.rm_rules.specs.Healthy.{IsCovered};
+    ghost use Rattle.rm_rules.specs.Healthy.{IsHeld};
 
     /// How much of its own bytes the pool uses.
     pub fn own_of(&self, pool: Name) -> u64
         requires sound { IsSound self.now.definitions }
-        requires covered { IsCovered self.now }
+        requires held { IsHeld self.now }
         ensures { result ≡ own_of self.now pool }
     {
         own_of(
@@ -35,7 +35,7 @@ impl Machine {
     /// How much of its own bytes the pool does not use.
     fn unused_of(&self, pool: Name) -> u64
         requires sound { IsSound self.now.definitions }
-        requires covered { IsCovered self.now }
+        requires held { IsHeld self.now }
         ensures { result ≡ unused_of self.now pool }
     {
         unused_of(
@@ -49,7 +49,7 @@ impl Machine {
     /// What the pool's queries hold.
     fn used(&self, pool: Name) -> u64
         requires sound { IsSound self.now.definitions }
-        requires covered { IsCovered self.now }
+        requires held { IsHeld self.now }
         ensures value { result ≡ used pool self.now.running }
         ensures most { result ≤ MEMORY_MOST }
     {
@@ -57,9 +57,9 @@ impl Machine {
     }
 
     /// GENERAL's use: its own queries' grants, and all debts.
-    fn lent(&self) -> u64
+    pub fn lent(&self) -> u64
         requires sound { IsSound self.now.definitions }
-        requires covered { IsCovered self.now }
+        requires held { IsHeld self.now }
         ensures { result ≡ lent self.now }
     {
         let rows = user_pools(self.definitions.pools.rows());
@@ -67,18 +67,18 @@ impl Machine {
     }
 
     /// What the pools reserve.
-    fn reserved(&self) -> u64
+    pub fn reserved(&self) -> u64
         requires sound { IsSound self.now.definitions }
-        requires covered { IsCovered self.now }
+        requires held { IsHeld self.now }
         ensures { result ≡ sum self.now.actual }
     {
         self.actual.iter().sum()
     }
 
     /// GENERAL's free bytes.
-    fn free(&self) -> u64
+    pub fn free(&self) -> u64
         requires sound { IsSound self.now.definitions }
-        requires covered { IsCovered self.now }
+        requires held { IsHeld self.now }
         ensures { result ≡ free self.now }
     {
         self.in_force - self.reserved() - self.lent()
@@ -103,7 +103,7 @@ impl Machine {
     /// The pool lets in a query of so many bytes.
     fn poolfit(&self, pool: Name, bytes: u64) -> bool
         requires sound { IsSound self.now.definitions }
-        requires covered { IsCovered self.now }
+        requires held { IsHeld self.now }
         requires bytes { bytes ≤ 2 * MEMORY_MOST }
         ensures { result ≡ poolfit self.now pool bytes }
     {
@@ -114,7 +114,7 @@ impl Machine {
     /// What the pool would borrow for so many bytes.
     fn need(&self, pool: Name, bytes: u64) -> u64
         requires sound { IsSound self.now.definitions }
-        requires covered { IsCovered self.now }
+        requires held { IsHeld self.now }
         ensures { result ≡ need self.now pool bytes }
     {
         bytes - bytes.min(self.unused_of(pool))
@@ -123,7 +123,7 @@ impl Machine {
     /// GENERAL has so many free bytes, and its use is within its threshold.
     fn can_lend(&self, bytes: u64) -> bool
         requires sound { IsSound self.now.definitions }
-        requires covered { IsCovered self.now }
+        requires held { IsHeld self.now }
         ensures { result ≡ can_lend self.now bytes }
     {
         self.lent() <= self.threshold(Name::general()) && bytes <= self.free()
@@ -132,7 +132,7 @@ impl Machine {
     /// How a query of so many bytes fits in the pool.
     fn judge(&self, pool: Name, bytes: u64) -> Judged
         requires sound { IsSound self.now.definitions }
-        requires covered { IsCovered self.now }
+        requires held { IsHeld self.now }
         requires bytes { bytes ≤ 2 * MEMORY_MOST }
         ensures { result ≡ judged self.now pool bytes }
     {
@@ -158,7 +158,7 @@ impl Machine {
     /// How the waiting query fits.
     fn judge_for(&self, w: &Waiter) -> Judged
         requires sound { IsSound self.now.definitions }
-        requires covered { IsCovered self.now }
+        requires held { IsHeld self.now }
         ensures { result ≡ judged_for self.now w.now }
     {
         self.judge(w.pool, self.ask_of(w))
@@ -167,7 +167,7 @@ impl Machine {
     /// The first of the heads that is entitled.
     pub fn first_entitled(&self) -> Option<Waiter>
         requires sound { IsSound self.now.definitions }
-        requires covered { IsCovered self.now }
+        requires held { IsHeld self.now }
         ensures { result ≡ first_entitled self.now }
     {
         let mut blocked = false;

@@ -17,13 +17,13 @@ impl Machine {
     ghost use Rattle.rm_rules.specs.Accounting.{used};
     ghost use Rattle.rm_rules.specs.Change.{told_running, told_waiting, told_in_phase, told, reply_of, runner_of, waiter_of};
     ghost use Rattle.rm_rules.specs.Sound.{IsSound};
-    ghost use Rattle.rm_rules.specs.Healthy.{IsCovered};
+    ghost use Rattle.rm_rules.specs.Healthy.{IsHeld};
     ghost use Rattle.machine.specs.Answers.{answer_of, account_of};
 
     /// What the pool's queries hold that run before this session's query.
     fn used_before(&self, session: u32, pool: Name) -> u64
         requires sound { IsSound self.now.definitions }
-        requires covered { IsCovered self.now }
+        requires held { IsHeld self.now }
         ensures { result ≡ used pool (take_while (λ x. not (x.session == session)) self.now.running) }
     {
         used_before(&self.running, session, pool)
@@ -32,7 +32,7 @@ impl Machine {
     /// The bytes of its own pool that the running query holds.
     fn own_bytes(&self, r: &Runner, session: u32) -> u64
         requires sound { IsSound self.now.definitions }
-        requires covered { IsCovered self.now }
+        requires held { IsHeld self.now }
         ensures value { result ≡ (account_of self.now session r.now).own }
         ensures within { result ≤ r.now.grant }
     {
@@ -46,7 +46,7 @@ impl Machine {
     /// The account of this session's running query.
     fn account_of(&self, r: &Runner, session: u32) -> Account
         requires sound { IsSound self.now.definitions }
-        requires covered { IsCovered self.now }
+        requires held { IsHeld self.now }
         ensures { result ≡ account_of self.now session r.now }
     {
         let own = self.own_bytes(r, session);
@@ -59,7 +59,7 @@ impl Machine {
 
     fn told_running(&self, session: u32) -> Reply
         requires sound { IsSound self.now.definitions }
-        requires covered { IsCovered self.now }
+        requires held { IsHeld self.now }
         ensures { result ≡ told_running self.now session (runner_of self.now.running session) }
     {
         let Some(r) = runner_of(&self.running, session) else {
@@ -91,7 +91,7 @@ impl Machine {
     /// What a session is told of its query, as the state stands.
     fn told(&self, session: u32) -> Reply
         requires sound { IsSound self.now.definitions }
-        requires covered { IsCovered self.now }
+        requires held { IsHeld self.now }
         requires few { length self.now.waiting ≤ SESSIONS_MOST }
         ensures { result ≡ told self.now session }
     {
@@ -106,10 +106,10 @@ impl Machine {
         }
     }
 
-    /// The reply to an accepted event.
+    /// The reply to an event that is not refused.
     pub fn reply_of(&self, told: Told) -> Reply
         requires sound { IsSound self.now.definitions }
-        requires covered { IsCovered self.now }
+        requires held { IsHeld self.now }
         requires few { length self.now.waiting ≤ SESSIONS_MOST }
         ensures { result ≡ reply_of self.now (answer_of told) }
     {

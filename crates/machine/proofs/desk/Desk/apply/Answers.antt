@@ -6,5 +6,5 @@ use Rattle.machine.proofs.desk.Desk.apply.Goals as goal
 
 pub invariant_of-self : goal.invariant_of-self
 invariant_of-self c =
-    let after = kept-step (record { first = c.self.inside.first; state = c.self.inside.machine }) c.args.seat c.args.at c.args.event.now c.self.invariant in
+    let after = kept-step (record { first = c.self.inside.first; state = c.self.inside.machine }) c.args.seat c.args.at c.args.event.now c.requires.formed c.self.invariant in
     subst (λ (s : State). IsKept (record { first = c.self.inside.first; state = s })) (sym c.apply.ensures.state) after

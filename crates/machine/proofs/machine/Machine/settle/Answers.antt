@@ -1,30 +1,7 @@
-use Rattle.std.proofs.Common.{◌∙◌, ap, sym, subst, refl, length, arith}
+use Rattle.std.proofs.Common.{sym, subst}
 use Rattle.rm_rules.specs.State.{State}
-use Rattle.machine.proofs.Settling.{Settles, room-entitled, waiting-admitted, settles-admitted, settled-none}
+use Rattle.rm_rules.specs.Sound.{IsSound}
 use Rattle.machine.proofs.machine.Machine.settle.Goals as goal
 
-pub admit-requires : goal.admit-requires
-admit-requires c =
-    let picked = sym c.first_entitled.ensures ∙ c.in-Some.is in
-    record { sound = c.loop-w.invariant.sound; room = room-entitled c.loop-w.self c.in-Some.w c.loop-w.invariant.in_phase picked }
-
-pub loop-w-init : goal.loop-w-init
-loop-w-init c = record { same = refl; sound = c.requires.sound; covered = c.requires.covered; in_phase = c.requires.in_phase }
-
-pub loop-w-preserved : goal.loop-w-preserved
-loop-w-preserved c =
-    let picked = sym c.first_entitled.ensures ∙ c.in-Some.is in
-    subst (Settles c.args.self.now) (sym c.admit.ensures) (settles-admitted c.args.self.now c.loop-w.self c.in-Some.w picked c.loop-w.invariant)
-
-pub loop-w-smaller : goal.loop-w-smaller
-loop-w-smaller c =
-    let picked = sym c.first_entitled.ensures ∙ c.in-Some.is in
-    omega (arith, waiting-admitted c.loop-w.self c.in-Some.w picked, ap (λ (s : State). length s.waiting) c.admit.ensures)
-
-pub returns : goal.returns
-returns c = record {
-  state = sym (settled-none c.loop-w.self (sym c.first_entitled.ensures ∙ c.in_default.is)) ∙ c.loop-w.invariant.same;
-  sound = c.loop-w.invariant.sound;
-  covered = c.loop-w.invariant.covered;
-  in_phase = c.loop-w.invariant.in_phase;
-}
+pub admit_entitled-requires-clause-sound : goal.admit_entitled-requires-clause-sound
+admit_entitled-requires-clause-sound c = subst (λ (s : State). IsSound s.definitions) (sym c.shuffle.ensures.state) c.end_too_large.ensures.sound
