@@ -14,6 +14,7 @@ use rm_outside::sink::Sink;
 use rm_outside::source::Source;
 use std::alloc::Global;
 use std::io;
+use std::process::Abort;
 use std::test::Fail;
 
 /// The words of a command line.
@@ -109,9 +110,9 @@ fn runs_scripts(rt: HostRuntime) -> Result<(), Fail> {
 }
 
 /// Runs scripts with the usual words, each with the status and the text that it must give.
-fn run_cases(rt: &HostRuntime, cases: &[(&str, u8, &str)]) -> Result<(), Fail> {
+fn run_cases(rt: &impl Abort, alloc: Global, cases: &[(&str, u8, &str)]) -> Result<(), Fail> {
     for (script, status, text) in cases {
-        let (got, out) = run(rt.alloc(), USUAL, script.as_bytes())?;
+        let (got, out) = run(alloc, USUAL, script.as_bytes())?;
         assert_eq!(rt; got, *status, "the status of {script:?}");
         assert_eq!(rt; out.contents(), text.as_bytes(), "the text of {script:?}");
     }
@@ -131,7 +132,7 @@ fn reads_statements(rt: HostRuntime) -> Result<(), Fail> {
         ("sql x\nsql CREATE USER ann", 2, "refused 1 0\nbad line 2\n"),
         ("sql CREATE RESOURCE POOL etl ; \r\n", 0, "ok\n"),
     ];
-    run_cases(&rt, &cases)
+    run_cases(&rt, rt.alloc(), &cases)
 }
 
 /// T is 99,614,720 at first, and 83,886,080 with 80M for GENERAL. A budget of GENERAL is 95 percent of T, by 4.
@@ -154,7 +155,7 @@ fn defines_pools(rt: HostRuntime) -> Result<(), Fail> {
             "refused 12 5242880 24903680\nrefused 7 etl\n",
         ),
     ];
-    run_cases(&rt, &cases)
+    run_cases(&rt, rt.alloc(), &cases)
 }
 
 #[test]
@@ -177,7 +178,7 @@ fn opens_in_pools(rt: HostRuntime) -> Result<(), Fail> {
         ),
         ("open a ann general\n", 2, "bad line 1\n"),
     ];
-    run_cases(&rt, &cases)
+    run_cases(&rt, rt.alloc(), &cases)
 }
 
 /// A query in `etl` has half of the pool's 20 MiB.
@@ -202,7 +203,7 @@ fn sets_pools(rt: HostRuntime) -> Result<(), Fail> {
             a admitted 23658496 general 23658496 0\n",
         ),
     ];
-    run_cases(&rt, &cases)
+    run_cases(&rt, rt.alloc(), &cases)
 }
 
 #[test]
@@ -225,7 +226,7 @@ fn polls_queries(rt: HostRuntime) -> Result<(), Fail> {
             b toolarge pool 99614720 83886080\nb refused 22\n",
         ),
     ];
-    run_cases(&rt, &cases)
+    run_cases(&rt, rt.alloc(), &cases)
 }
 
 /// So many times the same line.
