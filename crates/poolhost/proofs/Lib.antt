@@ -1,6 +1,7 @@
 mod LinesLemmas
 mod NumbersLemmas
 mod WordsLemmas
+mod StatementLemmas
 pub mod Written
 pub mod ScriptLaws
 pub mod EndedLaws

@@ -1,7 +1,10 @@
 -- A script's journal is one legal history of the machine, and the quantity is conserved after each of its entries.
-use Rattle.std.proofs.Common.{◌≡◌, ℕ, ◌+◌, ◌-◌, ◌≤◌, ◌<◌, take, Bool, true, false, cond, eqb, leb, ltb, List, [], ◌∷◌, ◌++◌, length, Option, Some, None, refl, sym, ap, ◌∙◌, subst, arith, append_assoc}
+use Rattle.std.proofs.Common.{◌≡◌, ℕ, ◌+◌, ◌-◌, ◌≤◌, ◌<◌, take, Bool, true, false, cond, eqb, leb, ltb, List, [], ◌∷◌, ◌++◌, length, Option, Some, None, Result, Ok, Err, refl, sym, ap, ◌∙◌, subst, arith, append_assoc}
 use Rattle.std.proofs.lemmas.Bool.{false≢true}
 use Rattle.std.proofs.lemmas.Bool.Decides.{nat_tests}
+use Rattle.pool_sql.specs.Reading.{read_of}
+use Rattle.pool_sql.proofs.Texts.{read_of-in_range}
+use Rattle.rm_base.specs.declared.definitions.Definitions.{Definitions}
 use Rattle.rm_base.specs.declared.entry.Entry.{Entry}
 use Rattle.rm_base.specs.declared.event.Event.{Event}
 use Rattle.rm_base.specs.declared.event.Event.TheVariants as event
@@ -11,19 +14,23 @@ use Rattle.std.specs.Option.{option_and_then}
 use Rattle.std.specs.Str.Lines.{lines}
 use Rattle.poolhost.specs.declared.status.TheConstants.{TOO_LONG}
 use Rattle.rm_base.specs.declared.name.Name.{Name}
+use Rattle.rm_base.specs.declared.refusal.Refusal.{Refusal}
+use Rattle.rm_base.specs.declared.reply.Reply.{Reply}
+use Rattle.rm_base.specs.declared.reply.Reply.TheVariants as reply
+use Rattle.rm_base.specs.declared.statement.Statement.{Statement}
 use Rattle.rm_base.specs.Definitions.{fresh}
+use Rattle.rm_base.specs.Ranges.{is_statement_in_range}
 use Rattle.rm_rules.specs.State.{State, start}
-use Rattle.rm_rules.specs.Step.{step, replay, IsLegal}
+use Rattle.rm_rules.specs.Acceptance.{accepted, is_pool_statement}
+use Rattle.rm_rules.specs.Step.{step, replay, IsFormed, IsLegal}
 use Rattle.rm_rules.specs.Conserved.{ConservedAfterEach}
 use Rattle.rm_rules.proofs.Laws.{legal-step, replay-step, conserved-after-each, fresh-sound}
-use Rattle.poolhost.specs.declared.command.Command.{Command}
-use Rattle.poolhost.specs.declared.command.Command.TheVariants.{Open, Ask, Done}
 use Rattle.poolhost.specs.declared.options.Options.{Options}
-use Rattle.poolhost.specs.Commands.{command_of}
+use Rattle.poolhost.specs.Commands.{Command, Sql, Open, SetPool, Ask, Poll, Done, command_of}
 use Rattle.poolhost.specs.Numbers.{below, at_least, in_range, value_of}
 use Rattle.poolhost.specs.Options.{unit_of, times, memory_of, cores_of, both_options, values_in, options_of}
 use Rattle.poolhost.specs.OptionsFacts.{AreWithin}
-use Rattle.poolhost.specs.Script.{ScriptState, Turn, Bad, Goes, open_turn, opened_turn, called, ask_turn, done_turn, turn, command_turn, line_turn, is_comment, ScriptEnd, after_text, turn_end, lines_end, no_script, script_start, script_with, script, IsOneHistory}
+use Rattle.poolhost.specs.Script.{ScriptState, Turn, Bad, Goes, judged_turn, read_turn, with_name, chosen_turn, opened_turn, opening_turn, set_pool_turn, ask_turn, poll_turn, done_turn, turn, command_turn, line_turn, is_comment, ScriptEnd, after_text, turn_end, lines_end, no_script, script_start, script_with, script, IsOneHistory}
 use Rattle.poolhost.specs.SessionNames.{session_named}
 
 -- a fact of the machine that a turn leaves, where it leaves one
@@ -36,25 +43,68 @@ bad_or : (P : State → Type 0) (b : Bool) (t : Turn) → OnGoes P t → OnGoes 
 bad_or P true t h = tt
 bad_or P false t h = h
 
+-- a fact that each machine call keeps
+abbrev IsKeptByCalls : (State → Type 0) → Type 0
+IsKeptByCalls P = (m : State) (e : Event) → IsFormed e → P m → P (step m 0 0 e).state
+
 -- what each machine call keeps, each turn keeps
-asks : (P : State → Type 0) → ((m : State) (e : Event) → P m → P (step m 0 0 e).state) → (s : ScriptState) (session : Name) (floor : ℕ) (o : Option ℕ) → P s.machine → OnGoes P (ask_turn s session floor o)
+judged : (P : State → Type 0) → IsKeptByCalls P → (s : ScriptState) (statement : Statement) → IsFormed (event.Define statement) → (r : Result Definitions Refusal)
+    → P s.machine → OnGoes P (judged_turn s statement r)
+judged P each s statement formed (Err refusal) h = h
+judged P each s statement formed (Ok d) h = each s.machine (event.Define statement) formed h
+
+states : (P : State → Type 0) → IsKeptByCalls P → (s : ScriptState) (statement : Statement) → is_statement_in_range statement ≡ true → (b : Bool) → is_pool_statement statement ≡ b
+    → P s.machine → OnGoes P (cond b (judged_turn s statement (accepted s.machine.definitions statement)) Bad)
+states P each s statement ranged true is h = judged P each s statement (is, ranged) (accepted s.machine.definitions statement) h
+states P each s statement ranged false is h = tt
+
+reads : (P : State → Type 0) → IsKeptByCalls P → (s : ScriptState) (r : Result Statement Refusal) → ((statement : Statement) → r ≡ Ok statement → is_statement_in_range statement ≡ true)
+    → P s.machine → OnGoes P (read_turn s r)
+reads P each s (Err refusal) ranged h = h
+reads P each s (Ok statement) ranged h = states P each s statement (ranged statement refl) (is_pool_statement statement) refl h
+
+chooses : (P : State → Type 0) → IsKeptByCalls P → (s : ScriptState) (session : Name) (number : ℕ) (pool : Option Name) → P s.machine → OnGoes P (chosen_turn s session number pool)
+chooses P each s session number None h = h
+chooses P each s session number (Some pool) h = each s.machine (event.SetPool number pool) tt h
+
+follows_open : (P : State → Type 0) → IsKeptByCalls P → (s : ScriptState) (session : Name) (pool : Option Name) (r : Reply) → P s.machine → OnGoes P (opened_turn s session pool r)
+follows_open P each s session pool (reply.Opened number) h = chooses P each (with_name s session number) session number pool h
+follows_open P each s session pool _ h = h
+
+opens : (P : State → Type 0) → IsKeptByCalls P → (s : ScriptState) (session user : Name) (pool : Option Name) → P s.machine → OnGoes P (opening_turn s session user pool)
+opens P each s session user pool h =
+    let o = step s.machine 0 0 (event.Open user) in
+    follows_open P each (record s { machine = o.state }) session pool o.reply (each s.machine (event.Open user) tt h)
+
+sets_pool : (P : State → Type 0) → IsKeptByCalls P → (s : ScriptState) (session pool : Name) (o : Option ℕ) → P s.machine → OnGoes P (set_pool_turn s session pool o)
+sets_pool P each s session pool None h = tt
+sets_pool P each s session pool (Some n) h = each s.machine (event.SetPool n pool) tt h
+
+asks : (P : State → Type 0) → IsKeptByCalls P → (s : ScriptState) (session : Name) (floor : ℕ) (o : Option ℕ) → P s.machine → OnGoes P (ask_turn s session floor o)
 asks P each s session floor None h = tt
-asks P each s session floor (Some n) h = each s.machine (event.Submit n floor) h
+asks P each s session floor (Some n) h = each s.machine (event.Submit n floor) tt h
 
-ends : (P : State → Type 0) → ((m : State) (e : Event) → P m → P (step m 0 0 e).state) → (s : ScriptState) (session : Name) (o : Option ℕ) → P s.machine → OnGoes P (done_turn s session o)
+polls : (P : State → Type 0) → IsKeptByCalls P → (s : ScriptState) (session : Name) (o : Option ℕ) → P s.machine → OnGoes P (poll_turn s session o)
+polls P each s session None h = tt
+polls P each s session (Some n) h = each s.machine (event.Poll n) tt h
+
+ends : (P : State → Type 0) → IsKeptByCalls P → (s : ScriptState) (session : Name) (o : Option ℕ) → P s.machine → OnGoes P (done_turn s session o)
 ends P each s session None h = tt
-ends P each s session (Some n) h = each s.machine (event.Finish n) h
+ends P each s session (Some n) h = each s.machine (event.Finish n) tt h
 
-turn_keeps : (P : State → Type 0) → ((m : State) (e : Event) → P m → P (step m 0 0 e).state) → (s : ScriptState) (c : Command) → P s.machine → OnGoes P (turn s c)
-turn_keeps P each s (Open session user) h = bad_or P _ (opened_turn s session user) (each s.machine (event.Open user) h)
+turn_keeps : (P : State → Type 0) → IsKeptByCalls P → (s : ScriptState) (c : Command) → P s.machine → OnGoes P (turn s c)
+turn_keeps P each s (Sql text) h = reads P each s (read_of text) (read_of-in_range text) h
+turn_keeps P each s (Open session user pool) h = bad_or P _ (opening_turn s session user pool) (opens P each s session user pool h)
+turn_keeps P each s (SetPool session pool) h = sets_pool P each s session pool (session_named s.names session) h
 turn_keeps P each s (Ask session floor) h = asks P each s session floor (session_named s.names session) h
+turn_keeps P each s (Poll session) h = polls P each s session (session_named s.names session) h
 turn_keeps P each s (Done session) h = ends P each s session (session_named s.names session) h
 
-command_keeps : (P : State → Type 0) → ((m : State) (e : Event) → P m → P (step m 0 0 e).state) → (s : ScriptState) (o : Option Command) → P s.machine → OnGoes P (command_turn s o)
+command_keeps : (P : State → Type 0) → IsKeptByCalls P → (s : ScriptState) (o : Option Command) → P s.machine → OnGoes P (command_turn s o)
 command_keeps P each s None h = tt
 command_keeps P each s (Some c) h = turn_keeps P each s c h
 
-line_keeps : (P : State → Type 0) → ((m : State) (e : Event) → P m → P (step m 0 0 e).state) → (n : ℕ) (s : ScriptState) (line : List ℕ) → P s.machine → OnGoes P (line_turn n s line)
+line_keeps : (P : State → Type 0) → IsKeptByCalls P → (n : ℕ) (s : ScriptState) (line : List ℕ) → P s.machine → OnGoes P (line_turn n s line)
 line_keeps P each n s line h =
     bad_or P _ (cond (is_comment line) (Goes [] s) (command_turn s (command_of line)))
     (elim (is_comment line) as (λ b. OnGoes P (cond b (Goes [] s) (command_turn s (command_of line)))) [
@@ -68,7 +118,7 @@ turn_end-keeps : (P : State → Type 0) (J : List Entry → Type 0) → ((m : St
 turn_end-keeps P J tells n s Bad next h k more = tells s.machine h
 turn_end-keeps P J tells n s (Goes text s') next h k more = more s' k
 
-lines_end-keeps : (P : State → Type 0) (J : List Entry → Type 0) → ((m : State) → P m → J m.journal) → ((m : State) (e : Event) → P m → P (step m 0 0 e).state)
+lines_end-keeps : (P : State → Type 0) (J : List Entry → Type 0) → ((m : State) → P m → J m.journal) → IsKeptByCalls P
     → (n : ℕ) (s : ScriptState) (lines : List (List ℕ)) → P s.machine → J (lines_end n s lines).journal
 lines_end-keeps P J tells each n s [] h = tells s.machine h
 lines_end-keeps P J tells each n s (line ∷ more) h =
@@ -80,8 +130,8 @@ pub record IsHistory (first m : State) : Type 0 where
   pub legal : IsLegal first m.journal
   pub replays : replay first m.journal ≡ m
 
-history-step : (first m : State) (e : Event) → IsHistory first m → IsHistory first (step m 0 0 e).state
-history-step first m e h = record { legal = legal-step first m 0 0 e h.legal h.replays; replays = replay-step first m 0 0 e h.replays }
+history-step : (first : State) → IsKeptByCalls (IsHistory first)
+history-step first m e formed h = record { legal = legal-step first m 0 0 e formed h.legal h.replays; replays = replay-step first m 0 0 e h.replays }
 
 pub legal-lines : (first : State) (n : ℕ) (s : ScriptState) (lines : List (List ℕ)) → IsHistory first s.machine → IsLegal first (lines_end n s lines).journal
 legal-lines first n s lines h =
@@ -156,6 +206,6 @@ one_history words bytes o h =
       | true ↦ tt
       | false ↦ legal-lines first 1 (record { machine = first; names = [] }) (lines bytes) (record { legal = tt; replays = refl })
     ] in
-    let conserved : ConservedAfterEach first (script_with (Some o) bytes).journal = conserved-after-each (fresh o.memory o.cores) SCRIPT_ROOM (script_with (Some o) bytes).journal sound in
+    let conserved : ConservedAfterEach first (script_with (Some o) bytes).journal = conserved-after-each (fresh o.memory o.cores) SCRIPT_ROOM (script_with (Some o) bytes).journal sound legal in
     let both : IsOneHistory o (script_with (Some o) bytes) = record { legal = legal; conserved = conserved } in
     subst (λ (q : Option Options). IsOneHistory o (script_with q bytes)) (sym h) both

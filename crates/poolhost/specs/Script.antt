@@ -1,5 +1,5 @@
 -- A script as a function from bytes to bytes.
-use Rattle.std.specs.Prelude.{◌≡◌, ℕ, ◌+◌, Bool, true, false, ◌&&◌, ◌||◌, ◌==◌, not, nat_lt, nat_le, List, [], ◌∷◌, ◌++◌, length, Option, Some, None, option_map, find, is_some, if◌then◌else◌, slice_index}
+use Rattle.std.specs.Prelude.{◌≡◌, ℕ, ◌+◌, Bool, true, false, ◌&&◌, ◌||◌, ◌==◌, not, nat_lt, nat_le, List, [], ◌∷◌, ◌++◌, length, Option, Some, None, is_some, Result, Ok, Err, if◌then◌else◌}
 use Rattle.std.specs.Str.Lines.{lines}
 use Rattle.rm_base.specs.declared.limits.TheConstants.{SESSIONS_MOST, SCRIPT_ROOM, SCRIPT_MOST}
 use Rattle.rm_base.specs.declared.definitions.Definitions.{Definitions}
@@ -7,24 +7,26 @@ use Rattle.rm_base.specs.declared.entry.Entry.{Entry}
 use Rattle.rm_base.specs.declared.event.Event.{Event}
 use Rattle.rm_base.specs.declared.event.Event.TheVariants as event
 use Rattle.rm_base.specs.declared.name.Name.{Name}
+use Rattle.rm_base.specs.declared.refusal.Refusal.{Refusal}
 use Rattle.rm_base.specs.declared.reply.Reply.{Reply}
 use Rattle.rm_base.specs.declared.reply.Reply.TheVariants as reply
+use Rattle.rm_base.specs.declared.statement.Statement.{Statement}
 use Rattle.rm_base.specs.Name.{same_name, dbadmin}
 use Rattle.rm_base.specs.Definitions.{fresh}
+use Rattle.pool_sql.specs.Reading.{read_of}
+use Rattle.rm_rules.specs.Acceptance.{accepted, is_pool_statement}
 use Rattle.rm_rules.specs.State.{State, start}
 use Rattle.rm_rules.specs.Step.{step, IsLegal}
 use Rattle.rm_rules.specs.Conserved.{ConservedAfterEach}
 use Rattle.poolhost.specs.declared.names.Named.{Named}
 use Rattle.poolhost.specs.declared.names.TheConstants.{LINES_MOST}
-use Rattle.poolhost.specs.declared.command.Command.{Command}
-use Rattle.poolhost.specs.declared.command.Command.TheVariants.{Open, Ask, Done}
 use Rattle.poolhost.specs.declared.options.Options.{Options}
 use Rattle.poolhost.specs.declared.status.TheConstants.{DONE, USAGE, BAD_LINE, TOO_LONG}
-use Rattle.poolhost.specs.Commands.{command_of}
+use Rattle.poolhost.specs.Commands.{Command, Sql, Open, SetPool, Ask, Poll, Done, command_of}
 use Rattle.poolhost.specs.Lines.{is_readable}
 use Rattle.poolhost.specs.Options.{options_of}
 use Rattle.poolhost.specs.SessionNames.{session_named}
-use Rattle.poolhost.specs.Texts.{line_text, bad_text}
+use Rattle.poolhost.specs.Texts.{line_text, queued_text, chosen_text, bare_text, bad_text}
 
 -- the state of a script: the machine's, and the script's names of the open sessions
 pub record ScriptState : Type 0 where
@@ -36,43 +38,85 @@ pub data Turn : Type 0 where
   Bad : Turn
   Goes : (text : List ℕ) (state : ScriptState) → Turn
 
--- the names, with one more where a session was opened
-abbrev pub with_opened : List Named → Name → Reply → List Named
-with_opened names name (reply.Opened session) = names ++ record { name = name; session = session } ∷ []
-with_opened names name _ = names
-
--- a machine call of a script: the event, at the script's one moment and seat
-abbrev pub opened_turn : ScriptState → Name → Name → Turn
-opened_turn s session user =
-    let o = step s.machine 0 0 (event.Open user) in
-    Goes (line_text session o.reply) (record { machine = o.state; names = with_opened s.names session o.reply })
-
--- `open S USER`: bad where the name is used, where as many sessions are open as may be, and for another user than `dbadmin`
-abbrev pub open_turn : ScriptState → Name → Name → Turn
-open_turn s session user =
-    if is_some (session_named s.names session) || (nat_le SESSIONS_MOST (length s.names) || not (same_name user dbadmin)) then Bad
-    else opened_turn s session user
-
--- a machine call for a session, whose reply is printed
-abbrev pub called : ScriptState → Name → Event → Turn
-called s session e =
+-- a machine call of a script, at its one moment and seat, and the text that its reply is printed as
+abbrev pub called : ScriptState → Event → (Reply → List ℕ) → Turn
+called s e text =
     let o = step s.machine 0 0 e in
-    Goes (line_text session o.reply) (record s { machine = o.state })
+    Goes (text o.reply) (record s { machine = o.state })
+
+-- a statement on pools, by whether it is accepted: a refused one reaches no machine
+abbrev pub judged_turn : ScriptState → Statement → Result Definitions Refusal → Turn
+judged_turn s statement (Err refusal) = Goes (bare_text (reply.Refused refusal)) s
+judged_turn s statement (Ok definitions) = called s (event.Define statement) bare_text
+
+-- a statement that was read: other statements than those on pools are bad lines
+abbrev pub statement_turn : ScriptState → Statement → Turn
+statement_turn s statement =
+    if is_pool_statement statement then judged_turn s statement (accepted s.machine.definitions statement) else Bad
+
+-- `sql TEXT`, by what TEXT is read as
+abbrev pub read_turn : ScriptState → Result Statement Refusal → Turn
+read_turn s (Err refusal) = Goes (bare_text (reply.Refused refusal)) s
+read_turn s (Ok statement) = statement_turn s statement
+
+-- `sql TEXT`
+abbrev pub sql_turn : ScriptState → List ℕ → Turn
+sql_turn s text = read_turn s (read_of text)
+
+-- the script's names, with one more
+abbrev pub with_name : ScriptState → Name → ℕ → ScriptState
+with_name s session number = record s { names = s.names ++ record { name = session; session = number } ∷ [] }
+
+-- a session that was opened chooses a pool, if one is named
+abbrev pub chosen_turn : ScriptState → Name → ℕ → Option Name → Turn
+chosen_turn s session number None = Goes (line_text session (reply.Opened number)) s
+chosen_turn s session number (Some pool) = called s (event.SetPool number pool) (chosen_text session number)
+
+-- what follows Open: a session that was opened has its name, whether or not its pool is set
+abbrev pub opened_turn : ScriptState → Name → Option Name → Reply → Turn
+opened_turn s session pool (reply.Opened number) = chosen_turn (with_name s session number) session number pool
+opened_turn s session pool answer = Goes (line_text session answer) s
+
+-- Open, and what follows it
+abbrev pub opening_turn : ScriptState → Name → Name → Option Name → Turn
+opening_turn s session user pool =
+    let o = step s.machine 0 0 (event.Open user) in
+    opened_turn (record s { machine = o.state }) session pool o.reply
+
+-- `open S USER` or `open S USER POOL`: bad where the name is used, where as many sessions are open as may be, and for
+-- another user than `dbadmin`
+abbrev pub open_turn : ScriptState → Name → Name → Option Name → Turn
+open_turn s session user pool =
+    if is_some (session_named s.names session) || (nat_le SESSIONS_MOST (length s.names) || not (same_name user dbadmin)) then Bad
+    else opening_turn s session user pool
+
+-- `set S pool POOL`, by the session that S names
+abbrev pub set_pool_turn : ScriptState → Name → Name → Option ℕ → Turn
+set_pool_turn s session pool None = Bad
+set_pool_turn s session pool (Some number) = called s (event.SetPool number pool) (line_text session)
 
 -- `ask S FLOOR`
 abbrev pub ask_turn : ScriptState → Name → ℕ → Option ℕ → Turn
 ask_turn s session floor None = Bad
-ask_turn s session floor (Some number) = called s session (event.Submit number floor)
+ask_turn s session floor (Some number) = called s (event.Submit number floor) (queued_text session)
+
+-- `poll S`
+abbrev pub poll_turn : ScriptState → Name → Option ℕ → Turn
+poll_turn s session None = Bad
+poll_turn s session (Some number) = called s (event.Poll number) (line_text session)
 
 -- `done S`
 abbrev pub done_turn : ScriptState → Name → Option ℕ → Turn
 done_turn s session None = Bad
-done_turn s session (Some number) = called s session (event.Finish number)
+done_turn s session (Some number) = called s (event.Finish number) (line_text session)
 
 -- what a command does
 abbrev pub turn : ScriptState → Command → Turn
-turn s (Open session user) = open_turn s session user
+turn s (Sql text) = sql_turn s text
+turn s (Open session user pool) = open_turn s session user pool
+turn s (SetPool session pool) = set_pool_turn s session pool (session_named s.names session)
 turn s (Ask session floor) = ask_turn s session floor (session_named s.names session)
+turn s (Poll session) = poll_turn s session (session_named s.names session)
 turn s (Done session) = done_turn s session (session_named s.names session)
 
 abbrev pub command_turn : ScriptState → Option Command → Turn

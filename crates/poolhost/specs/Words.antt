@@ -27,3 +27,8 @@ one_behind _ = None
 abbrev pub two_behind : List (List ℕ) → Option (List ℕ × List ℕ)
 two_behind (first ∷ second ∷ third ∷ []) = Some (second, third)
 two_behind _ = None
+
+-- the three words behind the first, where there are four words
+abbrev pub three_behind : List (List ℕ) → Option (List ℕ × List ℕ × List ℕ)
+three_behind (first ∷ second ∷ third ∷ fourth ∷ []) = Some (second, third, fourth)
+three_behind _ = None

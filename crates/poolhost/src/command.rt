@@ -1,37 +1,60 @@
 //! The commands of a script.
 
-ghost use Rattle.std.specs.Prelude.{◌≡◌, map, IfOk};
-ghost use Rattle.poolhost.specs.Commands.{verb_of, first_word, open_line, ask_line, done_line, command_with, command_of};
+ghost use Rattle.std.specs.Prelude.{◌≡◌, map, option_map, IfOk};
+ghost use Rattle.poolhost.specs.Commands.{seen_command, verb_of, first_word, text_behind, open_plain, open_in_pool, open_line, set_line, ask_line, poll_line, done_line, command_with, command_of};
 
 use crate::numbers::floor_of;
-use crate::words::{one_behind, two_behind, words};
+use crate::words::{one_behind, three_behind, two_behind, words};
 use rm_base::name::Name;
 use std::alloc::{AllocError, Global};
 
 /// What a line of a script asks for.
 #[derive(Clone, Copy, PartialEq, Eq, Debug)]
-pub enum Command {
-    /// `open S USER`: a user opens a session.
-    Open { session: Name, user: Name },
+pub enum Command<'a> {
+    /// `sql TEXT`: the text is a statement.
+    Sql(&'a str),
+    /// `open S USER` or `open S USER POOL`: a user opens a session, and the session chooses a pool.
+    Open {
+        session: Name,
+        user: Name,
+        pool: Option<Name>,
+    },
+    /// `set S pool POOL`: a session chooses a pool.
+    SetPool {
+        session: Name,
+        pool: Name,
+    },
     /// `ask S FLOOR`: a session submits a query that needs at least the floor.
-    Ask { session: Name, floor: u64 },
+    Ask {
+        session: Name,
+        floor: u64,
+    },
+    /// `poll S`: a session asks what became of its query.
+    Poll {
+        session: Name,
+    },
     /// `done S`: a session ends its query.
-    Done { session: Name },
+    Done {
+        session: Name,
+    },
 }
 
 /// The first word of a command.
 #[derive(Clone, Copy, PartialEq, Eq, Debug)]
 pub enum Verb {
+    Sql,
     Open,
+    Set,
     Ask,
+    Poll,
     Done,
 }
 
 /// The command that a line gives, if it gives one.
 ///
 /// Whether its sessions are open, and who may open one, is no matter of reading.
-pub fn read_command(alloc: Global, line: &str) -> Result<Option<Command>, AllocError>
-    ensures { IfOk result (λ command. command ≡ command_of line.now) }
+pub fn read_command(alloc: Global, line: &str) -> Result<Option<Command<'_>>, AllocError>
+    ensures { IfOk result (λ command. option_map seen_command command ≡ command_of line.now) }
 {
     match verb_of(first_word(line)) {
         Some(verb) => read_with(alloc, verb, line),
@@ -39,16 +62,18 @@ pub fn read_command(alloc: Global, line: &str) -> Result<Option<Command>, AllocE
     }
 }
 
-/// The command of a line that begins with a verb.
-fn read_with(alloc: Global, verb: Verb, line: &str) -> Result<Option<Command>, AllocError>
-    ensures { IfOk result (λ command. command ≡ command_with verb line.now) }
+/// The command of a line that begins with a verb. A text is no words, so its line is not parted into them.
+fn read_with(alloc: Global, verb: Verb, line: &str) -> Result<Option<Command<'_>>, AllocError>
+    ensures { IfOk result (λ command. option_map seen_command command ≡ command_with verb line.now) }
 {
-    let words = words(alloc, line)?;
-    Ok(match verb {
-        Verb::Open => open_line(&words),
-        Verb::Ask => ask_line(&words),
-        Verb::Done => done_line(&words),
-    })
+    match verb {
+        Verb::Sql => Ok(text_behind(line).map(Command::Sql)),
+        Verb::Open => Ok(open_line(&words(alloc, line)?)),
+        Verb::Set => Ok(set_line(&words(alloc, line)?)),
+        Verb::Ask => Ok(ask_line(&words(alloc, line)?)),
+        Verb::Poll => Ok(poll_line(&words(alloc, line)?)),
+        Verb::Done => Ok(done_line(&words(alloc, line)?)),
+    }
 }
 
 /// The verb that a word is, compared as written.
@@ -56,8 +81,11 @@ fn verb_of(word: &str) -> Option<Verb>
     ensures { result ≡ verb_of word.now }
 {
     match word {
+        "sql" => Some(Verb::Sql),
         "open" => Some(Verb::Open),
+        "set" => Some(Verb::Set),
         "ask" => Some(Verb::Ask),
+        "poll" => Some(Verb::Poll),
         "done" => Some(Verb::Done),
         _ => None,
     }
@@ -73,20 +101,68 @@ fn first_word(line: &str) -> &str
     }
 }
 
-/// `open S USER`
-fn open_line(words: &[&str]) -> Option<Command>
-    ensures { result ≡ open_line (map (λ word. word.now) words.now) }
+/// What stands behind the first space of a line.
+fn text_behind(line: &str) -> Option<&str>
+    ensures { option_map (λ text. text.now) result ≡ text_behind line.now }
 {
-    let (session, user) = two_behind(words)?;
+    match line.split_once(' ') {
+        Some((_, text)) => Some(text),
+        None => None,
+    }
+}
+
+/// `open S USER` or `open S USER POOL`
+fn open_line<'a>(words: &[&str]) -> Option<Command<'a>>
+    ensures { option_map seen_command result ≡ open_line (map (λ word. word.now) words.now) }
+{
+    match two_behind(words) {
+        Some((session, user)) => open_plain(session, user),
+        None => {
+            let (session, user, pool) = three_behind(words)?;
+            open_in_pool(session, user, pool)
+        }
+    }
+}
+
+/// `open S USER`
+fn open_plain<'a>(session: &str, user: &str) -> Option<Command<'a>>
+    ensures { option_map seen_command result ≡ open_plain (session.now, user.now) }
+{
     Some(Command::Open {
         session: Name::of(session)?,
         user: Name::of(user)?,
+        pool: None,
     })
 }
 
+/// `open S USER POOL`
+fn open_in_pool<'a>(session: &str, user: &str, pool: &str) -> Option<Command<'a>>
+    ensures { option_map seen_command result ≡ open_in_pool (session.now, user.now, pool.now) }
+{
+    Some(Command::Open {
+        session: Name::of(session)?,
+        user: Name::of(user)?,
+        pool: Some(Name::of(pool)?),
+    })
+}
+
+/// `set S pool POOL`
+fn set_line<'a>(words: &[&str]) -> Option<Command<'a>>
+    ensures { option_map seen_command result ≡ set_line (map (λ word. word.now) words.now) }
+{
+    let (session, what, value) = three_behind(words)?;
+    match what {
+        "pool" => Some(Command::SetPool {
+            session: Name::of(session)?,
+            pool: Name::of(value)?,
+        }),
+        _ => None,
+    }
+}
+
 /// `ask S FLOOR`
-fn ask_line(words: &[&str]) -> Option<Command>
-    ensures { result ≡ ask_line (map (λ word. word.now) words.now) }
+fn ask_line<'a>(words: &[&str]) -> Option<Command<'a>>
+    ensures { option_map seen_command result ≡ ask_line (map (λ word. word.now) words.now) }
 {
     let (session, floor) = two_behind(words)?;
     Some(Command::Ask {
@@ -95,9 +171,19 @@ fn ask_line(words: &[&str]) -> Option<Command>
     })
 }
 
+/// `poll S`
+fn poll_line<'a>(words: &[&str]) -> Option<Command<'a>>
+    ensures { option_map seen_command result ≡ poll_line (map (λ word. word.now) words.now) }
+{
+    let session = one_behind(words)?;
+    Some(Command::Poll {
+        session: Name::of(session)?,
+    })
+}
+
 /// `done S`
-fn done_line(words: &[&str]) -> Option<Command>
-    ensures { result ≡ done_line (map (λ word. word.now) words.now) }
+fn done_line<'a>(words: &[&str]) -> Option<Command<'a>>
+    ensures { option_map seen_command result ≡ done_line (map (λ word. word.now) words.now) }
 {
     let session = one_behind(words)?;
     Some(Command::Done {
@@ -110,68 +196,60 @@ mod tests {
     use super::{Command, read_command};
     use rm_base::name::Name;
     use std::alloc::AllocError;
+    use std::test::Fail;
 
     #[test]
-    fn reads_commands(rt: HostRuntime) -> Result<(), AllocError> {
-        let a = Name::of("a").expect(&rt, "a name");
-        let ann = Name::of("ann").expect(&rt, "a name");
-        let longest = Name::of("a2345678901234567890123456789_32").expect(&rt, "a name");
-        let open = Some(Command::Open {
-            session: a,
-            user: Name::dbadmin(),
-        });
-        let ask = Some(Command::Ask {
-            session: a,
-            floor: 7,
-        });
+    fn reads_commands(rt: HostRuntime) -> Result<(), Fail> {
+        let session = Name::of("a").ok_or("no name")?;
+        let user = Name::dbadmin();
+        let pool = Name::of("etl").ok_or("no name")?;
+        let longest = Name::of("a2345678901234567890123456789_32").ok_or("no name")?;
+        let open = |pool| Command::Open {
+            session,
+            user,
+            pool,
+        };
+        let ask = Command::Ask { session, floor: 7 };
+        let set = Command::SetPool { session, pool };
         let cases = [
-            ("open a dbadmin", open),
-            ("open A DbAdmin", open),
-            ("open  a   dbadmin", open),
-            (
-                "open a ann",
-                Some(Command::Open {
-                    session: a,
-                    user: ann,
-                }),
-            ),
-            ("open a", None),
-            ("open a dbadmin etl", None),
-            ("Open a dbadmin", None),
-            ("open a dbadmin ", None),
-            (" open a dbadmin", None),
-            ("open\ta dbadmin", None),
-            ("open a\tdbadmin", None),
-            ("open 1a dbadmin", None),
-            ("open min dbadmin", None),
-            ("open a Select", None),
-            ("open a dbadmin\r", None),
+            ("sql x", Command::Sql("x")),
+            ("sql ", Command::Sql("")),
+            ("sql  x ;  ", Command::Sql(" x ;  ")),
+            ("open a dbadmin", open(None)),
+            ("open  A   DbAdmin", open(None)),
+            ("open a dbadmin ETL", open(Some(pool))),
+            ("set A pool Etl", set),
             ("ask a 7", ask),
             ("ask A 000000000000007", ask),
-            ("ask a 0000000000000007", None),
-            ("ask a 0", None),
-            ("ask a +7", None),
-            ("ask a", None),
-            ("ask a 7 7", None),
-            ("ask 7 a", None),
-            ("done a", Some(Command::Done { session: a })),
+            ("poll A", Command::Poll { session }),
+            ("done a", Command::Done { session }),
             (
                 "done a2345678901234567890123456789_32",
-                Some(Command::Done { session: longest }),
+                Command::Done { session: longest },
             ),
-            ("done a23456789012345678901234567890_33", None),
-            ("done a-b", None),
-            ("done", None),
-            ("done ", None),
-            ("done a a", None),
-            ("dones a", None),
-            ("frob", None),
-            ("frob a", None),
-            ("", None),
-            ("# done a", None),
         ];
         for (line, command) in cases {
-            assert_eq!(rt; read_command(rt.alloc(), line)?, command, "at {line:?}");
+            assert_eq!(rt;
+                read_command(rt.alloc(), line)?,
+                Some(command),
+                "at {line:?}"
+            );
+        }
+        Ok(())
+    }
+
+    /// Lines that give no command, with `|` between them.
+    const BAD: &str =
+        "| sql x|sql|sqlx|Sql x|sql\tx|open a|open a dbadmin etl x|Open a dbadmin|open a dbadmin |\
+        open\ta dbadmin|open a\tdbadmin|open 1a dbadmin|open min dbadmin|open a Select|open a dbadmin select|\
+        open a dbadmin\r| open a dbadmin|set a pool|set a Pool etl|set a pool select|set a cap 7|set a pool etl x|\
+        ask a 0000000000000007|ask a 0|ask a +7|ask a|ask a 7 7|ask 7 a|poll|poll a b|poll a |done|done a-b|done a a|\
+        done a23456789012345678901234567890_33|dones a|frob a|# done a";
+
+    #[test]
+    fn reads_no_command(rt: HostRuntime) -> Result<(), AllocError> {
+        for line in BAD.split('|') {
+            assert_eq!(rt; read_command(rt.alloc(), line)?, None, "at {line:?}");
         }
         Ok(())
     }

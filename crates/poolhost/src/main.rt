@@ -38,9 +38,13 @@ usage: poolhost script --memory SIZE --cores COUNT
 Reads a script from standard input and writes what its lines print.
 SIZE is digits and one of K, M, G, T, from 16M to 1024T; COUNT is 1 to 1024.
 Lines of a script:
-  open S dbadmin   opens a session that the script names S
-  ask S FLOOR      submits a query of S that needs at least FLOOR bytes
-  done S           ends the query of S
+  sql TEXT             defines a pool: CREATE RESOURCE POOL .. or ALTER RESOURCE POOL ..
+  open S dbadmin       opens a session that the script names S
+  open S dbadmin POOL  opens it, and S chooses the pool
+  set S pool POOL      S chooses the pool
+  ask S FLOOR          submits a query of S that needs at least FLOOR bytes
+  poll S               tells what became of the query of S
+  done S               ends the query of S
 Empty lines and lines that begin with # print nothing.";
 
 /// The words of the command line, without the program's own.

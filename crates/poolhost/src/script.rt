@@ -1,18 +1,29 @@
 //! A script that runs: its machine, and its names of the open sessions.
 
+ghost use Rattle.std.specs.Prelude.{◌≡◌, IfOk};
+ghost use Rattle.rm_base.specs.declared.reply.Reply.TheVariants as reply;
+ghost use Rattle.rm_rules.specs.Acceptance.{is_pool_statement};
+ghost use Rattle.poolhost.specs.Script.{ScriptState, Goes};
+ghost use Rattle.poolhost.specs.Scripts.{seen_turn};
+ghost use Rattle.poolhost.specs.Texts.{bare_text};
+
 use crate::command::{Command, read_command};
 use crate::comments::is_comment;
 use crate::lines::readable;
 use crate::names::{LINES_MOST, Named, session_named};
 use crate::options::Options;
-use crate::texts::line_text;
+use crate::texts::{bare_text, chosen_text, line_text, queued_text};
 use machine::desk::Desk;
+use pool_sql::reading::{ReadError, read_statement};
+use pool_table::accept;
 use rm_base::definitions::Definitions;
 use rm_base::event::Event;
 use rm_base::limits::{SCRIPT_ROOM, SESSIONS_MOST};
 use rm_base::moment::Moment;
 use rm_base::name::Name;
+use rm_base::refusal::Refusal;
 use rm_base::reply::Reply;
+use rm_base::statement::Statement;
 use std::alloc::{AllocError, Global};
 
 /// A script that runs.
@@ -33,9 +44,13 @@ pub enum Turned {
 const SEAT: u32 = 0;
 
 impl Script {
-    ghost use Rattle.std.specs.Prelude.{◌≡◌, [], IfOk};
+    ghost use Rattle.std.specs.Prelude.{◌≡◌, true, [], IfOk};
+    ghost use Rattle.rm_base.specs.Ranges.{is_statement_in_range};
+    ghost use Rattle.rm_rules.specs.Step.{step, IsFormed};
+    ghost use Rattle.poolhost.specs.Commands.{seen_command};
     ghost use Rattle.poolhost.specs.OptionsFacts.{AreWithin};
-    ghost use Rattle.poolhost.specs.Script.{script_start, line_turn, turn, open_turn, opened_turn, called};
+    ghost use Rattle.poolhost.specs.Script.{script_start, line_turn, turn, sql_turn, statement_turn, open_turn, opening_turn, chosen_turn, set_pool_turn, ask_turn, poll_turn, done_turn};
+    ghost use Rattle.poolhost.specs.SessionNames.{session_named};
     ghost use Rattle.poolhost.specs.Scripts.{seen, seen_turn, IsEarly};
 
     /// A script before its first line.
@@ -71,32 +86,60 @@ impl Script {
     }
 
     /// Does what a command says.
-    fn command(&mut self, alloc: Global, command: Command) -> Result<Turned, AllocError>
-        ensures { IfOk result (λ t. seen_turn t (seen self.new) ≡ turn (seen self.old) command) }
+    fn command(&mut self, alloc: Global, command: Command<'_>) -> Result<Turned, AllocError>
+        ensures { IfOk result (λ t. seen_turn t (seen self.new) ≡ turn (seen self.old) (seen_command command.entry)) }
     {
         match command {
-            Command::Open { session, user } => self.open(alloc, session, user),
-            Command::Ask { session, floor } => match session_named(&self.names, session) {
-                None => Ok(Turned::Bad),
-                Some(number) => self.call(
-                    alloc,
-                    session,
-                    &Event::Submit {
-                        session: number,
-                        floor,
-                    },
-                ),
-            },
-            Command::Done { session } => match session_named(&self.names, session) {
-                None => Ok(Turned::Bad),
-                Some(number) => self.call(alloc, session, &Event::Finish { session: number }),
-            },
+            Command::Sql(text) => self.sql(alloc, text),
+            Command::Open {
+                session,
+                user,
+                pool,
+            } => self.open(alloc, session, user, pool),
+            Command::SetPool { session, pool } => self.set_pool(alloc, session, pool),
+            Command::Ask { session, floor } => self.ask(alloc, session, floor),
+            Command::Poll { session } => self.poll(alloc, session),
+            Command::Done { session } => self.done(alloc, session),
         }
     }
 
-    /// `open S USER`
-    fn open(&mut self, alloc: Global, session: Name, user: Name) -> Result<Turned, AllocError>
-        ensures { IfOk result (λ t. seen_turn t (seen self.new) ≡ open_turn (seen self.old) session user) }
+    /// `sql TEXT`
+    fn sql(&mut self, alloc: Global, text: &str) -> Result<Turned, AllocError>
+        ensures { IfOk result (λ t. seen_turn t (seen self.new) ≡ sql_turn (seen self.old) text.now) }
+    {
+        match read_statement(alloc, text) {
+            Ok(statement) => self.statement(alloc, &statement),
+            Err(ReadError::Refused(refusal)) => refused(alloc, refusal),
+            Err(ReadError::Memory) => Err(AllocError),
+        }
+    }
+
+    /// A statement that was read. It changes nothing unless it is accepted.
+    fn statement(&mut self, alloc: Global, statement: &Statement) -> Result<Turned, AllocError>
+        requires { is_statement_in_range statement.now ≡ true }
+        ensures { IfOk result (λ t. seen_turn t (seen self.new) ≡ statement_turn (seen self.old) statement.now) }
+    {
+        if !is_pool_statement(statement) {
+            return Ok(Turned::Bad);
+        }
+        match accept(self.desk.definitions(), statement) {
+            Ok(()) => {
+                let reply = self.call(&Event::Define(*statement));
+                Ok(Turned::Goes(bare_text(alloc, reply)?))
+            }
+            Err(refusal) => refused(alloc, refusal),
+        }
+    }
+
+    /// `open S USER` or `open S USER POOL`
+    fn open(
+        &mut self,
+        alloc: Global,
+        session: Name,
+        user: Name,
+        pool: Option<Name>,
+    ) -> Result<Turned, AllocError>
+        ensures { IfOk result (λ t. seen_turn t (seen self.new) ≡ open_turn (seen self.old) session user pool) }
     {
         if session_named(&self.names, session).is_some()
             || self.names.len() >= SESSIONS_MOST
@@ -104,7 +147,7 @@ impl Script {
         {
             return Ok(Turned::Bad);
         }
-        self.open_session(alloc, session, user)
+        self.open_session(alloc, session, user, pool)
     }
 
     /// Opens a session, and keeps its name if it was opened.
@@ -113,25 +156,116 @@ impl Script {
         alloc: Global,
         session: Name,
         user: Name,
+        pool: Option<Name>,
     ) -> Result<Turned, AllocError>
-        ensures { IfOk result (λ t. seen_turn t (seen self.new) ≡ opened_turn (seen self.old) session user) }
+        ensures { IfOk result (λ t. seen_turn t (seen self.new) ≡ opening_turn (seen self.old) session user pool) }
     {
-        let answered = self.desk.apply(SEAT, Moment::of(0), &Event::Open { user });
-        let text = line_text(alloc, session, answered.reply)?;
-        if let Reply::Opened(number) = answered.reply {
-            self.names.push(Named {
-                name: session,
-                session: number,
-            })?;
+        let reply = self.call(&Event::Open { user });
+        match reply {
+            Reply::Opened(number) => {
+                self.names.push(Named {
+                    name: session,
+                    session: number,
+                })?;
+                self.choose_pool(alloc, session, number, pool)
+            }
+            _ => Ok(Turned::Goes(line_text(alloc, session, reply)?)),
         }
-        Ok(Turned::Goes(text))
     }
 
-    /// Makes a machine call for a session, and prints the reply.
-    fn call(&mut self, alloc: Global, session: Name, event: &Event) -> Result<Turned, AllocError>
-        ensures { IfOk result (λ t. seen_turn t (seen self.new) ≡ called (seen self.old) session event.now) }
+    /// Chooses the pool of a session that was opened, if one is named.
+    fn choose_pool(
+        &mut self,
+        alloc: Global,
+        session: Name,
+        number: u32,
+        pool: Option<Name>,
+    ) -> Result<Turned, AllocError>
+        ensures { IfOk result (λ t. seen_turn t (seen self.new) ≡ chosen_turn (seen self.old) session number pool) }
     {
-        let answered = self.desk.apply(SEAT, Moment::of(0), event);
-        Ok(Turned::Goes(line_text(alloc, session, answered.reply)?))
+        let Some(pool) = pool else {
+            return Ok(Turned::Goes(line_text(alloc, session, Reply::Opened(number))?));
+        };
+        let reply = self.call(&Event::SetPool {
+            session: number,
+            pool,
+        });
+        Ok(Turned::Goes(chosen_text(alloc, session, number, reply)?))
     }
+
+    /// `set S pool POOL`
+    fn set_pool(&mut self, alloc: Global, session: Name, pool: Name) -> Result<Turned, AllocError>
+        ensures { IfOk result (λ t. seen_turn t (seen self.new) ≡ set_pool_turn (seen self.old) session pool (session_named (seen self.old).names session)) }
+    {
+        let Some(number) = session_named(&self.names, session) else {
+            return Ok(Turned::Bad);
+        };
+        let reply = self.call(&Event::SetPool {
+            session: number,
+            pool,
+        });
+        Ok(Turned::Goes(line_text(alloc, session, reply)?))
+    }
+
+    /// `ask S FLOOR`
+    fn ask(&mut self, alloc: Global, session: Name, floor: u64) -> Result<Turned, AllocError>
+        ensures { IfOk result (λ t. seen_turn t (seen self.new) ≡ ask_turn (seen self.old) session floor (session_named (seen self.old).names session)) }
+    {
+        let Some(number) = session_named(&self.names, session) else {
+            return Ok(Turned::Bad);
+        };
+        let reply = self.call(&Event::Submit {
+            session: number,
+            floor,
+        });
+        Ok(Turned::Goes(queued_text(alloc, session, reply)?))
+    }
+
+    /// `poll S`
+    fn poll(&mut self, alloc: Global, session: Name) -> Result<Turned, AllocError>
+        ensures { IfOk result (λ t. seen_turn t (seen self.new) ≡ poll_turn (seen self.old) session (session_named (seen self.old).names session)) }
+    {
+        let Some(number) = session_named(&self.names, session) else {
+            return Ok(Turned::Bad);
+        };
+        let reply = self.call(&Event::Poll { session: number });
+        Ok(Turned::Goes(line_text(alloc, session, reply)?))
+    }
+
+    /// `done S`
+    fn done(&mut self, alloc: Global, session: Name) -> Result<Turned, AllocError>
+        ensures { IfOk result (λ t. seen_turn t (seen self.new) ≡ done_turn (seen self.old) session (session_named (seen self.old).names session)) }
+    {
+        let Some(number) = session_named(&self.names, session) else {
+            return Ok(Turned::Bad);
+        };
+        let reply = self.call(&Event::Finish { session: number });
+        Ok(Turned::Goes(line_text(alloc, session, reply)?))
+    }
+
+    /// Makes a machine call.
+    fn call(&mut self, event: &Event) -> Reply
+        requires { IsFormed event.now }
+        ensures reply { result ≡ (step (seen self.old).machine 0 0 event.now).reply }
+        ensures state { seen self.new ≡ record (seen self.old) { machine = (step (seen self.old).machine 0 0 event.now).state } }
+    {
+        self.desk.apply(SEAT, Moment::of(0), event).reply
+    }
+}
+
+/// Prints a refusal, and changes nothing.
+fn refused(alloc: Global, refusal: Refusal) -> Result<Turned, AllocError>
+    ensures { IfOk result (λ t. (s : ScriptState) → seen_turn t s ≡ Goes (bare_text (reply.Refused refusal)) s) }
+{
+    Ok(Turned::Goes(bare_text(alloc, Reply::Refused(refusal))?))
+}
+
+/// Whether a statement creates or alters a pool. Other statements have no place in a script yet.
+fn is_pool_statement(statement: &Statement) -> bool
+    ensures { result ≡ is_pool_statement statement.now }
+{
+    matches!(
+        statement,
+        Statement::CreatePool(..) | Statement::AlterPool(..)
+    )
 }

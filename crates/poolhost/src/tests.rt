@@ -14,6 +14,7 @@ use rm_outside::sink::Sink;
 use rm_outside::source::Source;
 use std::alloc::Global;
 use std::io;
+use std::process::Abort;
 use std::test::Fail;
 
 /// The words of a command line.
@@ -106,6 +107,126 @@ fn runs_scripts(rt: HostRuntime) -> Result<(), Fail> {
         assert_eq!(rt; out.contents(), text, "the text of {script:?}");
     }
     Ok(())
+}
+
+/// Runs scripts with the usual words, each with the status and the text that it must give.
+fn run_cases(rt: &impl Abort, alloc: Global, cases: &[(&str, u8, &str)]) -> Result<(), Fail> {
+    for (script, status, text) in cases {
+        let (got, out) = run(alloc, USUAL, script.as_bytes())?;
+        assert_eq!(rt; got, *status, "the status of {script:?}");
+        assert_eq!(rt; out.contents(), text.as_bytes(), "the text of {script:?}");
+    }
+    Ok(())
+}
+
+#[test]
+fn reads_statements(rt: HostRuntime) -> Result<(), Fail> {
+    let cases = [
+        ("sql", 2, "bad line 1\n"),
+        (" sql x", 2, "bad line 1\n"),
+        ("sql ", 0, "refused 1 0\n"),
+        ("sql x", 0, "refused 1 0\n"),
+        ("sql  x ;", 0, "refused 1 1\n"),
+        ("sql CREATE  ", 0, "refused 1 8\n"),
+        ("sql DROP RESOURCE POOL etl", 2, "bad line 1\n"),
+        ("sql x\nsql CREATE USER ann", 2, "refused 1 0\nbad line 2\n"),
+        ("sql CREATE RESOURCE POOL etl ; \r\n", 0, "ok\n"),
+    ];
+    run_cases(&rt, rt.alloc(), &cases)
+}
+
+/// T is 99,614,720 at first, and 83,886,080 with 80M for GENERAL. A budget of GENERAL is 95 percent of T, by 4.
+#[test]
+fn defines_pools(rt: HostRuntime) -> Result<(), Fail> {
+    let cases = [
+        (
+            "sql ALTER RESOURCE POOL general MAXMEMORYSIZE '80M'\nopen a dbadmin\nask a 1",
+            0,
+            "ok\na opened 1\na admitted 19922944 general 19922944 0\n",
+        ),
+        (
+            "sql ALTER RESOURCE POOL general MAXMEMORYSIZE '101M'\nopen a dbadmin\nask a 1",
+            0,
+            "refused 5 MAXMEMORYSIZE\na opened 1\na admitted 23658496 general 23658496 0\n",
+        ),
+        (
+            "sql CREATE RESOURCE POOL etl MEMORYSIZE '90M'\nsql ALTER RESOURCE POOL etl PRIORITY 1\n",
+            0,
+            "refused 12 5242880 24903680\nrefused 7 etl\n",
+        ),
+    ];
+    run_cases(&rt, rt.alloc(), &cases)
+}
+
+#[test]
+fn opens_in_pools(rt: HostRuntime) -> Result<(), Fail> {
+    let cases = [
+        (
+            "open a dbadmin etl\nask a 1",
+            0,
+            "a refused 7 etl\na admitted 23658496 general 23658496 0\n",
+        ),
+        (
+            "open a dbadmin etl\nopen a dbadmin",
+            2,
+            "a refused 7 etl\nbad line 2\n",
+        ),
+        (
+            "open a dbadmin etl\nopen b dbadmin General",
+            0,
+            "a refused 7 etl\nb opened 2\n",
+        ),
+        ("open a ann general\n", 2, "bad line 1\n"),
+    ];
+    run_cases(&rt, rt.alloc(), &cases)
+}
+
+/// A query in `etl` has half of the pool's 20 MiB.
+#[test]
+fn sets_pools(rt: HostRuntime) -> Result<(), Fail> {
+    let cases = [
+        (
+            "open a dbadmin\nset b pool general",
+            2,
+            "a opened 1\nbad line 2\n",
+        ),
+        (
+            "open a dbadmin\nset a pool nope\nset a pool general\nset a pool general\nask a 1",
+            0,
+            "a opened 1\na refused 7 nope\na set\na set\na admitted 23658496 general 23658496 0\n",
+        ),
+        (
+            "sql CREATE RESOURCE POOL etl MEMORYSIZE '20M' PLANNEDCONCURRENCY 2\n\
+            open a dbadmin ETL\nask a 1\nset a pool general\ndone a\nask a 1",
+            0,
+            "ok\na opened 1\na admitted 10485760 etl 10485760 0\na set\na released 10485760\n\
+            a admitted 23658496 general 23658496 0\n",
+        ),
+    ];
+    run_cases(&rt, rt.alloc(), &cases)
+}
+
+#[test]
+fn polls_queries(rt: HostRuntime) -> Result<(), Fail> {
+    let cases = [
+        ("poll a\n", 2, "bad line 1\n"),
+        ("open a dbadmin\npoll a", 0, "a opened 1\na refused 22\n"),
+        (
+            "open a dbadmin\nopen b dbadmin\nask a 99614720\npoll a\nask b 1\npoll b\ndone a\npoll b",
+            0,
+            "a opened 1\nb opened 2\na admitted 99614720 general 99614720 0\n\
+            a admitted 99614720 general 99614720 0\nb queued 1\nb waiting 1\na released 99614720\n\
+            b admitted 23658496 general 23658496 0\n",
+        ),
+        (
+            "open a dbadmin\nopen b dbadmin\nask a 1\nask b 99614720\n\
+            sql ALTER RESOURCE POOL general MAXMEMORYSIZE '80M'\npoll b\npoll b",
+            0,
+            "a opened 1\nb opened 2\na admitted 23658496 general 23658496 0\nb queued 1\nok\n\
+            b toolarge pool 99614720 83886080\nb refused 22\n",
+        ),
+    ];
+    run_cases(&rt, rt.alloc(), &cases)
 }
 
 /// So many times the same line.

@@ -1,7 +1,7 @@
 //! What a script prints.
 
 ghost use Rattle.std.specs.Prelude.{◌≡◌, Some, IfOk, string_bytes};
-ghost use Rattle.poolhost.specs.Texts.{end_text, reply_text, line_text, bad_text};
+ghost use Rattle.poolhost.specs.Texts.{end_text, reply_text, line_text, queued_text, chosen_text, bare_text, bad_text};
 
 use rm_base::name::Name;
 use rm_base::reply::{End, Reply};
@@ -24,7 +24,7 @@ impl fmt::Display for EndText {
     }
 }
 
-/// A reply, as a script prints it behind the session's name.
+/// A reply, as a script prints it.
 #[derive(Drop)]
 struct ReplyText(Reply);
 
@@ -43,7 +43,7 @@ impl fmt::Display for ReplyText {
                 own,
                 borrowed,
             } => write!(f, "admitted {grant} {pool} {own} {borrowed}"),
-            Reply::Waiting { query: _, place } => write!(f, "queued {place}"),
+            Reply::Waiting { query: _, place } => write!(f, "waiting {place}"),
             Reply::Ended(end) => {
                 let end = EndText(end);
                 write!(f, "{end}")
@@ -67,6 +67,39 @@ pub fn line_text(alloc: Global, session: Name, reply: Reply) -> Result<String, A
 {
     let reply = ReplyText(reply);
     format!(in alloc; "{session} {reply}\n")
+}
+
+/// The line of a reply to Submit.
+pub fn queued_text(alloc: Global, session: Name, reply: Reply) -> Result<String, AllocError>
+    ensures { IfOk result (λ text. string_bytes text ≡ queued_text session reply) }
+{
+    match reply {
+        Reply::Waiting { query: _, place } => format!(in alloc; "{session} queued {place}\n"),
+        _ => line_text(alloc, session, reply),
+    }
+}
+
+/// The line of a reply to SetPool right after a session was opened.
+pub fn chosen_text(
+    alloc: Global,
+    session: Name,
+    number: u32,
+    reply: Reply,
+) -> Result<String, AllocError>
+    ensures { IfOk result (λ text. string_bytes text ≡ chosen_text session number reply) }
+{
+    match reply {
+        Reply::Set => line_text(alloc, session, Reply::Opened(number)),
+        _ => line_text(alloc, session, reply),
+    }
+}
+
+/// The line of a reply that names no session.
+pub fn bare_text(alloc: Global, reply: Reply) -> Result<String, AllocError>
+    ensures { IfOk result (λ text. string_bytes text ≡ bare_text reply) }
+{
+    let reply = ReplyText(reply);
+    format!(in alloc; "{reply}\n")
 }
 
 /// The line that says that a line is bad.

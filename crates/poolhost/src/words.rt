@@ -1,7 +1,7 @@
 //! The words of a line.
 
 ghost use Rattle.std.specs.Prelude.{◌≡◌, map, option_map, IfOk};
-ghost use Rattle.poolhost.specs.Words.{has_outer_space, words, one_behind, two_behind};
+ghost use Rattle.poolhost.specs.Words.{has_outer_space, words, one_behind, two_behind, three_behind};
 
 use std::alloc::{AllocError, Global};
 
@@ -42,6 +42,17 @@ pub fn two_behind<'a>(words: &[&'a str]) -> Option<(&'a str, &'a str)>
 {
     match words {
         [_, second, third] => Some((second, third)),
+        _ => None,
+    }
+}
+
+/// The three words behind the first, where there are four words.
+pub fn three_behind<'a>(words: &[&'a str]) -> Option<(&'a str, &'a str, &'a str)>
+    ensures { option_map (λ triple. (triple.0.now, triple.1.now, triple.2.now)) result
+        ≡ three_behind (map (λ word. word.now) words.now) }
+{
+    match words {
+        [_, second, third, fourth] => Some((second, third, fourth)),
         _ => None,
     }
 }
