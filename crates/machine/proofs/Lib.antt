@@ -1,4 +1,3 @@
-pub mod Bounds
 pub mod Sums
 pub mod Places
 pub mod Ends

@@ -17,7 +17,7 @@ never b loud still = absurd (false≢true (sym still ∙ sym loud))
 
 chosen-still : (s : State) (o : Option Session) (pool : Name) (c : Change) → Chooses s o pool c → c.changed ≡ false → c.state ≡ s
 chosen-still s o pool _ stays still = refl
-chosen-still s o pool _ (changes x found there room) still = never true refl still
+chosen-still s o pool _ (changes x found other there room) still = never true refl still
 
 polled-still : (s : State) (o : Option Session) (c : Change) → Polls s o c → c.changed ≡ false → c.state ≡ s
 polled-still s o _ (tells x found) still = refl

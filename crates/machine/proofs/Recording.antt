@@ -29,4 +29,4 @@ place answer s h = record {
 pub place-settled : (answer : Answer) (s t : State) → t ≡ settled s → IsUnsettled answer s → HasPlace answer t
 place-settled answer s t same h =
     subst (HasPlace answer) (sym same)
-    (place answer (settled s) (kept-settled (counted_for answer) (defining_for answer) s (record { sound = h.sound; held = h.held; in_phase = h.in_phase; room = h.room })))
+    (place answer (settled s) (kept-settled (counted_for answer) (defining_for answer) s (record { sound = h.sound; held = h.held; in_phase = h.in_phase; numbered = h.numbered; room = h.room })))

@@ -1,5 +1,7 @@
 -- Why a Submit is refused: for its session and its user, or for its size and the journal's room.
 use Rattle.std.specs.Prelude.{ℕ, ◌+◌, Option, Some, None, not, is_some, length, if◌then◌else◌}
+use Rattle.rm_base.specs.declared.definitions.Definitions.{Definitions}
+use Rattle.rm_base.specs.declared.rows.PoolRow.{PoolRow}
 use Rattle.rm_base.specs.declared.name.Name.{Name}
 use Rattle.rm_base.specs.declared.refusal.Refusal.{Refusal}
 use Rattle.rm_base.specs.declared.refusal.Refusal.TheVariants as refusal
@@ -15,6 +17,10 @@ user_refusal s x pool =
     if not (is_idle x.phase) then Some refusal.SessionBusy
     else (if not (is_some (user_called s.definitions.users x.user)) then Some (refusal.NoSuchUser x.user)
     else (if not (usage s.definitions x.user pool) then Some (refusal.NoUsage pool) else None))
+
+-- why a query is too large, where it is
+abbrev pub if_too_large : Definitions → PoolRow → Name → ℕ → Option Refusal
+if_too_large d r user floor = if is_too_large d r user floor then Some (too_large d r user floor) else None
 
 -- the floor is above the least cap, or the journal has no room
 abbrev pub size_refusal : State → Session → Name → ℕ → Option Refusal

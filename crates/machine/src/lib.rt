@@ -2,7 +2,7 @@
 #![tactic(auto)]
 
 mod accounts;
-mod budget;
+mod asks;
 mod counters;
 pub mod desk;
 mod machine;

@@ -5,9 +5,9 @@ ghost use Rattle.rm_rules.specs.Definitions.{user_pools};
 ghost use Rattle.rm_rules.specs.State.{no_ends, is_defined};
 
 use crate::accounts::user_pools;
-use crate::budget::total;
 use crate::counters::none_ended;
 use crate::told::Told;
+use budgets::total;
 use rm_base::definitions::Definitions;
 use rm_base::entry::{Answered, EndCounts, Entry, MoveSeen};
 use rm_base::event::Event;

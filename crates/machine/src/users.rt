@@ -2,9 +2,9 @@
 ghost use Rattle.std.specs.Prelude.{◌≡◌};
 ghost use Rattle.std.specs.List.{list_any};
 ghost use Rattle.rm_base.specs.Name.{same_name, general, dbadmin};
-ghost use Rattle.rm_rules.specs.Definitions.{pool_called, user_called, role_called, pool_row, is_member_by, is_member, gives_usage, usage, pool_by_role, role_pool, default_pool, memory_cap};
+ghost use Rattle.rm_rules.specs.Definitions.{pool_called, user_called, role_called, is_member_by, is_member, gives_usage, usage, pool_by_role, role_pool, default_pool};
 
-use rm_base::definitions::{Definitions, default_pool_row};
+use rm_base::definitions::Definitions;
 use rm_base::name::Name;
 use rm_base::rows::{GrantRow, PoolRow, RoleRow, UserRow};
 
@@ -24,12 +24,6 @@ fn role_called(roles: &[RoleRow], name: Name) -> Option<RoleRow>
     ensures { result ≡ role_called roles.now name }
 {
     roles.iter().copied().find(|r| r.name.same(name))
-}
-
-pub fn pool_row(definitions: &Definitions, name: Name) -> PoolRow
-    ensures { result ≡ pool_row definitions.now name }
-{
-    pool_called(definitions.pools.rows(), name).unwrap_or(default_pool_row(name))
 }
 
 /// The grant makes the user a member of the role.
@@ -121,10 +115,4 @@ pub fn default_pool(definitions: &Definitions, user: Name) -> Name
     let own = user_called(definitions.users.rows(), user).and_then(|row| row.pool);
     let by_role = role_pool(definitions.roles.rows(), user, definitions.grants.rows());
     own.unwrap_or(by_role.unwrap_or(Name::general()))
-}
-
-pub fn memory_cap(definitions: &Definitions, user: Name) -> Option<u64>
-    ensures { result ≡ memory_cap definitions.now user }
-{
-    user_called(definitions.users.rows(), user).and_then(|row| row.memory_cap)
 }

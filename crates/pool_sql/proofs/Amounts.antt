@@ -1,5 +1,5 @@
 -- the numbers that a program tells, which stay at the greatest `u64`, are read as the numbers themselves
-use Rattle.std.proofs.Common.{◌≡◌, ℕ, zero, suc, ◌+◌, ◌*◌, ◌<◌, ◌≤◌, min, nat_le, Bool, true, false, ◌&&◌, ◌==◌, if◌then◌else◌, ◌⊎◌, inl, inr, Option, Some, None, Result, Ok, Err, List, [], ◌∷◌, take, drop, refl, sym, ◌∙◌, ap, subst, arith, lit<, lit≤}
+use Rattle.std.proofs.Common.{◌≡◌, ℕ, zero, suc, ◌+◌, ◌*◌, ◌<◌, ◌≤◌, min, nat_le, Bool, true, false, ◌&&◌, ◌==◌, if◌then◌else◌, inl, inr, Option, Some, None, Ok, Err, List, [], ◌∷◌, take, drop, refl, sym, ◌∙◌, ap, subst, arith, lit<, lit≤}
 use Rattle.std.proofs.lemmas.Bool.{lt-leb, cases_lt, ne_eqb}
 use Rattle.std.specs.Char.{to_ascii_lowercase}
 use Rattle.std.specs.Str.Parse.{digits_value}
@@ -9,7 +9,6 @@ use Rattle.rm_words.specs.declared.class.Class.TheVariants as class
 use Rattle.rm_words.specs.Class.{class_of}
 use Rattle.rm_words.specs.Word.{is_digit}
 use Rattle.rm_words.specs.Token.{AreDigits, most}
-use Rattle.pool_sql.specs.declared.stop.Fault.{Fault}
 use Rattle.pool_sql.specs.declared.stop.Fault.TheVariants.{Form, Outside}
 use Rattle.pool_sql.specs.Amount.{bytes, bytes_in, digit_count, front_number, ms_in, percent, percent_in, size_in, span_in, unit_bytes, unit_ms, unit_of, within}
 

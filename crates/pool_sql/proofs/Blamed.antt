@@ -1,21 +1,15 @@
 -- what stops a word is what is wrong with it
-use Rattle.std.proofs.Common.{◌≡◌, ℕ, ℤ, Bool, true, false, ◌&&◌, if◌then◌else◌, ◌⊎◌, inl, inr, Option, Some, None, Result, Ok, Err, List, [], ◌∷◌, ◌++◌, refl, sym, ◌∙◌, ap, subst, append_assoc, codes}
+use Rattle.std.proofs.Common.{◌≡◌, ℕ, ℤ, Bool, true, false, ◌&&◌, if◌then◌else◌, ◌⊎◌, inl, inr, Option, Some, None, Result, Ok, Err, List, [], ◌∷◌, ◌++◌, refl, sym, ◌∙◌, ap, subst, codes}
 use Rattle.rm_base.specs.declared.name.Name.{Name}
 use Rattle.rm_base.specs.declared.refusal.Parameter.{Parameter}
 use Rattle.rm_base.specs.declared.refusal.Parameter.TheVariants as parameter
 use Rattle.rm_base.specs.declared.statement.Statement.{Statement}
 use Rattle.rm_base.specs.declared.statement.Statement.TheVariants as statement
-use Rattle.rm_words.specs.declared.token.Symbol.{Symbol}
 use Rattle.rm_words.specs.declared.token.Symbol.TheVariants as symbol
 use Rattle.rm_words.specs.Token.{Token, Bare, Number, Quoted, Sign, is_key}
 use Rattle.pool_sql.specs.declared.progress.Giving.{Giving}
-use Rattle.pool_sql.specs.declared.progress.Giving.TheVariants as giving
-use Rattle.pool_sql.specs.declared.progress.Kind.{Kind}
-use Rattle.pool_sql.specs.declared.progress.Kind.TheVariants as kind
 use Rattle.pool_sql.specs.declared.progress.Progress.{Progress}
 use Rattle.pool_sql.specs.declared.progress.Progress.TheVariants.{Start, Verbed, OfResource, NameDue, Given, Usage, UsageOn, UsageResource, UsagePool, UsageOf, UsageTo, RoleOf, RoleTo, RoleNamed, RoleResource, RolePool, Part, CascadeTo, UserPool, ValueDue, MinusRead, Ended}
-use Rattle.pool_sql.specs.declared.progress.Verb.{Verb}
-use Rattle.pool_sql.specs.declared.progress.Verb.TheVariants as verb
 use Rattle.pool_sql.specs.declared.setting.Setting.{Setting}
 use Rattle.pool_sql.specs.declared.setting.Setting.TheVariants as setting
 use Rattle.pool_sql.specs.declared.stop.Stop.{Stop}
@@ -23,15 +17,13 @@ use Rattle.pool_sql.specs.declared.stop.Stop.TheVariants as stop
 use Rattle.pool_sql.specs.Names.{name_of}
 use Rattle.pool_sql.specs.Parameter.{parameter_of, takes_any}
 use Rattle.pool_sql.specs.Setting.{is_named, set}
-use Rattle.pool_sql.specs.Value.{is_none, negative_of, optional_name, some_name, value_of}
-use Rattle.pool_sql.specs.Grammar.{IsBody, create_pool, alter_pool, drop_pool, create_user, alter_user, drop_user, create_role, alter_role, drop_role, grant_usage, revoke_usage, grant_role, revoke_role, named, IsValue, one, minus, IsValueDue, due, key, name, more_keys}
-use Rattle.pool_sql.specs.Machine.{Stepped, Edge, begun, edges, finish, is_minus, is_semicolon, keyed, on_given, on_key, on_name, on_negative, on_other, on_parameter, on_role_pool, on_value, role_given, step, stranger, to_key, usage_given}
-use Rattle.pool_sql.proofs.Keys.{is_key-eq}
-use Rattle.pool_sql.proofs.NameLemmas.{name_of-eq}
+use Rattle.pool_sql.specs.Value.{is_none, negative_of, some_name, value_of}
+use Rattle.pool_sql.specs.Grammar.{IsBody, IsValueDue}
+use Rattle.pool_sql.specs.Machine.{Stepped, Edge, begun, edges, is_minus, is_semicolon, keyed, on_key, on_name, on_negative, on_other, on_parameter, on_role_pool, on_value, role_given, step, stranger, usage_given}
 use Rattle.pool_sql.specs.Grammar.{Blames, IsWhy, unknown, affinity, repeated, value, negative}
-use Rattle.pool_sql.specs.Machine.{onward, run}
+use Rattle.pool_sql.specs.Machine.{run}
 use Rattle.pool_sql.specs.Parameter.{is_affinity}
-use Rattle.pool_sql.proofs.Means.{IsMinusRead, Means, is_minus-eq, minus_read, not_err, ok_is}
+use Rattle.pool_sql.proofs.Means.{IsMinusRead, Means, is_minus-eq, minus_read, ok_is}
 use Rattle.pool_sql.proofs.Complete.{complete, due-run, run-after}
 
 err_is : (a b : Stop) → (let r : Stepped = Err a in let s : Stepped = Err b in r ≡ s) → a ≡ b

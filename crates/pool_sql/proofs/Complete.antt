@@ -1,35 +1,27 @@
 -- every statement is read
-use Rattle.std.proofs.Common.{◌≡◌, ℕ, ℤ, Bool, true, false, ◌&&◌, if◌then◌else◌, ◌⊎◌, inl, inr, Option, Some, None, Result, Ok, Err, List, [], ◌∷◌, ◌++◌, refl, sym, ◌∙◌, ap, subst, append_assoc, codes}
+use Rattle.std.proofs.Common.{◌≡◌, ℕ, Bool, true, false, if◌then◌else◌, Some, None, Ok, Err, List, [], ◌∷◌, ◌++◌, refl, sym, ◌∙◌, ap, codes}
 use Rattle.rm_base.specs.declared.name.Name.{Name}
 use Rattle.rm_base.specs.declared.refusal.Parameter.{Parameter}
 use Rattle.rm_base.specs.declared.refusal.Parameter.TheVariants as parameter
 use Rattle.rm_base.specs.declared.statement.Statement.{Statement}
-use Rattle.rm_base.specs.declared.statement.Statement.TheVariants as statement
 use Rattle.rm_words.specs.declared.token.Symbol.{Symbol}
 use Rattle.rm_words.specs.declared.token.Symbol.TheVariants as symbol
-use Rattle.rm_words.specs.Token.{Token, Bare, Number, Quoted, Sign, is_key}
+use Rattle.rm_words.specs.Token.{Token, Bare, Sign, is_key}
 use Rattle.pool_sql.specs.declared.progress.Giving.{Giving}
 use Rattle.pool_sql.specs.declared.progress.Giving.TheVariants as giving
-use Rattle.pool_sql.specs.declared.progress.Kind.{Kind}
 use Rattle.pool_sql.specs.declared.progress.Kind.TheVariants as kind
 use Rattle.pool_sql.specs.declared.progress.Progress.{Progress}
-use Rattle.pool_sql.specs.declared.progress.Progress.TheVariants.{Start, Verbed, OfResource, NameDue, Given, Usage, UsageOn, UsageResource, UsagePool, UsageOf, UsageTo, RoleOf, RoleTo, RoleNamed, RoleResource, RolePool, Part, CascadeTo, UserPool, ValueDue, MinusRead, Ended}
-use Rattle.pool_sql.specs.declared.progress.Verb.{Verb}
+use Rattle.pool_sql.specs.declared.progress.Progress.TheVariants.{Start, NameDue, Given, Usage, UsagePool, UsageOf, UsageTo, RoleOf, RoleTo, Part, ValueDue, Ended}
 use Rattle.pool_sql.specs.declared.progress.Verb.TheVariants as verb
 use Rattle.pool_sql.specs.declared.setting.Setting.{Setting}
-use Rattle.pool_sql.specs.declared.setting.Setting.TheVariants as setting
-use Rattle.pool_sql.specs.declared.stop.Stop.{Stop}
 use Rattle.pool_sql.specs.declared.stop.Stop.TheVariants as stop
 use Rattle.pool_sql.specs.Names.{name_of}
-use Rattle.pool_sql.specs.Parameter.{parameter_of, takes_any}
+use Rattle.pool_sql.specs.Parameter.{parameter_of}
 use Rattle.pool_sql.specs.Setting.{is_named, set}
-use Rattle.pool_sql.specs.Value.{negative_of, optional_name, value_of}
 use Rattle.pool_sql.specs.Grammar.{IsBody, create_pool, alter_pool, drop_pool, create_user, alter_user, drop_user, create_role, alter_role, drop_role, grant_usage, revoke_usage, grant_role, revoke_role, named, IsValue, one, minus, IsValueDue, due, key, name, more_keys}
-use Rattle.pool_sql.specs.Machine.{Stepped, Edge, begun, edges, finish, is_minus, is_semicolon, keyed, on_given, on_key, on_name, on_negative, on_other, on_parameter, on_role_pool, on_value, role_given, step, stranger, to_key, usage_given}
+use Rattle.pool_sql.specs.Machine.{Stepped, begun, finish, keyed, on_name, on_negative, on_parameter, on_role_pool, on_value, role_given, step, to_key, usage_given}
 use Rattle.pool_sql.proofs.Keys.{is_key-eq}
-use Rattle.pool_sql.proofs.NameLemmas.{name_of-eq}
 use Rattle.rm_base.specs.Name.{name_text}
-use Rattle.rm_base.specs.RefusalText.{parameter_text}
 use Rattle.rm_base.proofs.Names.{name_text-eq}
 use Rattle.pool_sql.specs.Names.{usage_name}
 use Rattle.pool_sql.specs.Grammar.{Spells, bare, ended}

@@ -1,13 +1,11 @@
 -- what was read is a front of a statement, and what is refused is none
-use Rattle.std.proofs.Common.{◌≡◌, ℕ, ℤ, Bool, true, false, ◌&&◌, if◌then◌else◌, ◌⊎◌, inl, inr, Option, Some, None, Result, Ok, Err, List, [], ◌∷◌, ◌++◌, refl, sym, ◌∙◌, ap, subst, append_assoc, append-nil, codes}
+use Rattle.std.proofs.Common.{◌≡◌, ℕ, Bool, true, false, Option, Some, None, Ok, Err, List, [], ◌∷◌, ◌++◌, refl, sym, ◌∙◌, ap, subst, append_assoc, append-nil, codes}
 use Rattle.rm_base.specs.declared.name.Name.{Name}
 use Rattle.rm_base.specs.declared.refusal.Parameter.{Parameter}
 use Rattle.rm_base.specs.declared.refusal.Parameter.TheVariants as parameter
 use Rattle.rm_base.specs.declared.statement.Statement.{Statement}
-use Rattle.rm_base.specs.declared.statement.Statement.TheVariants as statement
-use Rattle.rm_words.specs.declared.token.Symbol.{Symbol}
 use Rattle.rm_words.specs.declared.token.Symbol.TheVariants as symbol
-use Rattle.rm_words.specs.Token.{Token, Bare, Number, Quoted, Sign, is_key}
+use Rattle.rm_words.specs.Token.{Token, Number, Sign}
 use Rattle.pool_sql.specs.declared.progress.Giving.{Giving}
 use Rattle.pool_sql.specs.declared.progress.Giving.TheVariants as giving
 use Rattle.pool_sql.specs.declared.progress.Kind.{Kind}
@@ -17,17 +15,11 @@ use Rattle.pool_sql.specs.declared.progress.Progress.TheVariants.{Start, Verbed,
 use Rattle.pool_sql.specs.declared.progress.Verb.{Verb}
 use Rattle.pool_sql.specs.declared.progress.Verb.TheVariants as verb
 use Rattle.pool_sql.specs.declared.setting.Setting.{Setting}
-use Rattle.pool_sql.specs.declared.setting.Setting.TheVariants as setting
 use Rattle.pool_sql.specs.declared.stop.Stop.{Stop}
-use Rattle.pool_sql.specs.declared.stop.Stop.TheVariants as stop
-use Rattle.pool_sql.specs.Names.{name_of}
-use Rattle.pool_sql.specs.Parameter.{parameter_of, takes_any}
-use Rattle.pool_sql.specs.Setting.{is_named, set}
-use Rattle.pool_sql.specs.Value.{negative_of, optional_name, value_of}
-use Rattle.pool_sql.specs.Grammar.{IsBody, create_pool, alter_pool, drop_pool, create_user, alter_user, drop_user, create_role, alter_role, drop_role, grant_usage, revoke_usage, grant_role, revoke_role, named, IsValue, one, minus, IsValueDue, due, key, name, more_keys}
-use Rattle.pool_sql.specs.Machine.{Stepped, Edge, begun, edges, finish, is_minus, is_semicolon, keyed, on_given, on_key, on_name, on_negative, on_other, on_parameter, on_role_pool, on_value, role_given, step, stranger, to_key, usage_given}
-use Rattle.pool_sql.proofs.Keys.{is_key-eq}
-use Rattle.pool_sql.proofs.NameLemmas.{name_of-eq}
+use Rattle.pool_sql.specs.Setting.{set}
+use Rattle.pool_sql.specs.Value.{value_of}
+use Rattle.pool_sql.specs.Grammar.{IsBody, create_pool, alter_pool, drop_pool, create_user, alter_user, drop_user, create_role, alter_role, drop_role, grant_usage, revoke_usage, grant_role, revoke_role, named, one, minus, IsValueDue, due, key, name, more_keys}
+use Rattle.pool_sql.specs.Machine.{Stepped, finish, step, to_key}
 use Rattle.std.proofs.Common.{lit<}
 use Rattle.std.specs.Fmt.{decimal}
 use Rattle.rm_base.specs.Name.{general, name_text}
@@ -35,9 +27,9 @@ use Rattle.rm_words.specs.Token.{Says}
 use Rattle.rm_words.proofs.Printing.{number_says}
 use Rattle.pool_sql.specs.Grammar.{IsFront, Spells, bare, ended}
 use Rattle.pool_sql.specs.Machine.{onward, run}
-use Rattle.pool_sql.proofs.Means.{IsEnded, IsKeyed, IsMinusRead, Means, is_ended, keyed_by, minus_read, more-means, not_err, ok_is, path, role-means, set-means, step-means, usage-means}
+use Rattle.pool_sql.proofs.Means.{IsEnded, IsKeyed, IsMinusRead, Means, is_ended, minus_read, more-means, not_err, ok_is, path, role-means, set-means, step-means, usage-means}
 use Rattle.pool_sql.proofs.Saying.{AllSay, AllSay-append, name-says}
-use Rattle.pool_sql.proofs.Complete.{Gives, run-after, run-append, spells-gives}
+use Rattle.pool_sql.proofs.Complete.{run-after, run-append, spells-gives}
 
 -- what is read has its meaning
 means-turn : (p : Progress) (us : List Token) (t : Token) (ts : List Token) (q : Progress) (r : Stepped) → step p t ≡ r → Means p us

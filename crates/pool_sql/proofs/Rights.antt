@@ -1,11 +1,10 @@
 -- what is spelled is right: its values are in their ranges
-use Rattle.std.proofs.Common.{◌≡◌, ℕ, ℤ, zero, suc, pos, negsuc, neg_ℤ, ◌+◌, ◌*◌, ◌≤◌, nat_le, Bool, true, false, ◌&&◌, ◌||◌, ◌==◌, if◌then◌else◌, Option, Some, None, IfSome, find, Result, Ok, Err, List, [], ◌∷◌, ◌++◌, refl, sym, ◌∙◌, ap, subst, arith, lit≤, codes}
+use Rattle.std.proofs.Common.{◌≡◌, ℕ, ℤ, zero, suc, pos, neg_ℤ, ◌*◌, ◌≤◌, nat_le, Bool, true, false, ◌&&◌, ◌||◌, ◌==◌, if◌then◌else◌, Option, Some, None, IfSome, find, Result, Ok, Err, List, [], ◌∷◌, refl, sym, ◌∙◌, ap, subst, arith, lit≤, codes}
 use Rattle.std.proofs.Math.Nat.{mul_assoc}
 use Rattle.std.specs.Char.{to_ascii_lowercase}
 use Rattle.std.specs.List.{list_any, list_all}
 use Rattle.std.proofs.lemmas.Bool.{leb-true, and_parts}
 use Rattle.rm_base.specs.declared.limits.TheConstants.{CONCURRENCY_MOST, MEMORY_MOST, SPAN_MOST, THRESHOLD_SECONDS_MOST}
-use Rattle.rm_base.specs.declared.name.Name.{Name}
 use Rattle.rm_base.specs.declared.refusal.Parameter.{Parameter}
 use Rattle.rm_base.specs.declared.refusal.Parameter.TheVariants as parameter
 use Rattle.rm_base.specs.declared.statement.PoolChange.{PoolChange}
@@ -24,11 +23,11 @@ use Rattle.pool_sql.specs.declared.stop.Stop.{Stop}
 use Rattle.pool_sql.specs.declared.stop.Stop.TheVariants as stop
 use Rattle.pool_sql.specs.Amount.{bytes, bytes_in, digit_count, front_number, ms_in, number_of, percent, percent_in, size_in, size_of, span_in, span_of, timeout_of, unit_bytes, unit_ms, unit_of, within}
 use Rattle.pool_sql.specs.Grammar.{IsBody, create_pool, alter_pool, drop_pool, create_user, alter_user, drop_user, create_role, alter_role, drop_role, grant_usage, revoke_usage, grant_role, revoke_role, named, IsValue, one, minus, Spells, bare, ended}
-use Rattle.pool_sql.specs.Parameter.{parameter_among, parameter_of, parameters, pool_parameters, user_parameters}
+use Rattle.pool_sql.specs.Parameter.{parameter_of, pool_parameters, user_parameters}
 use Rattle.pool_sql.specs.Printed.{parameter_named}
 use Rattle.pool_sql.specs.Right.{IsBetween, IsOptionalBetween, IsOptionalSize, IsPriority, IsRight, IsRightPool, IsRightUser, IsSize, names_any}
-use Rattle.pool_sql.specs.Setting.{is_named, is_named_pool, is_named_user, no_pool_change, no_user_change, set, set_pool, set_user}
-use Rattle.pool_sql.specs.Value.{as_setting, defaults, is_auto, is_default, is_none, level_of, memory_size_of, negative_of, optional, optional_name, optional_size, parallelism_of, priority_of, queue_timeout_of, runtime_cap_of, signed, some_name, taken, threshold_of, unless_default, value_of}
+use Rattle.pool_sql.specs.Setting.{is_named_pool, is_named_user, no_pool_change, no_user_change, set, set_pool, set_user}
+use Rattle.pool_sql.specs.Value.{as_setting, defaults, is_auto, is_default, is_none, level_of, memory_size_of, optional, optional_name, optional_size, parallelism_of, priority_of, queue_timeout_of, runtime_cap_of, signed, taken, threshold_of, unless_default, value_of}
 
 ok_is : {E T : Type 0} (a b : T) → ◌≡◌ {A = Result T E} (Ok a) (Ok b) → a ≡ b
 ok_is a b h = cc

@@ -1,60 +1,24 @@
 -- which words say which tokens
-use Rattle.std.proofs.Common.{◌≡◌, ℕ, ℤ, zero, suc, pos, negsuc, neg_ℤ, ◌+◌, ◌*◌, ◌/◌, ◌<◌, ◌≤◌, ◌^◌, nat_le, Bool, true, false, ◌&&◌, ◌||◌, ◌==◌, if◌then◌else◌, ◌⊎◌, inl, inr, Option, Some, None, IfSome, option_map, Result, Ok, Err, List, [], ◌∷◌, ◌++◌, length, take, drop, map, refl, sym, ◌∙◌, ap, subst, arith, lit<, lit≤, codes, append_assoc, append-nil}
-use Rattle.std.specs.Char.{digit_value, to_ascii_lowercase}
-use Rattle.std.specs.Int.{IsInRange}
-use Rattle.std.specs.List.{list_any, list_all}
-use Rattle.std.specs.Fmt.{decimal}
-use Rattle.std.specs.Str.Parse.{AllDigits, IsNumeral, digits_value}
-use Rattle.std.proofs.Math.Nat.{mul-div_cancel}
-use Rattle.std.proofs.lemmas.Bool.{and_parts, le-leb, ne_eqb, or_cases}
+use Rattle.std.proofs.Common.{◌≡◌, ℕ, nat_le, true, ◌&&◌, ◌||◌, List, [], ◌∷◌, ◌++◌, map, refl, sym, ◌∙◌, ap, subst, arith}
+use Rattle.std.specs.Char.{to_ascii_lowercase}
+use Rattle.std.specs.List.{list_all}
+use Rattle.std.proofs.lemmas.Bool.{and_parts}
 use Rattle.std.proofs.lemmas.Bool.Decides.{nat_tests}
-use Rattle.std.proofs.lemmas.Fmt.{decimal_is_IsNumeral}
-use Rattle.std.proofs.lemmas.List.{length-append, map-append}
-use Rattle.std.proofs.Math.Seq.{take-append_seam}
-use Rattle.rm_base.specs.declared.limits.TheConstants.{CONCURRENCY_MOST, MEMORY_MOST, SPAN_MOST, THRESHOLD_SECONDS_MOST}
 use Rattle.rm_base.specs.declared.name.Name.{Name}
-use Rattle.rm_base.specs.declared.refusal.Parameter.{Parameter}
-use Rattle.rm_base.specs.declared.refusal.Parameter.TheVariants as parameter
-use Rattle.rm_base.specs.declared.statement.Level.{Level}
-use Rattle.rm_base.specs.declared.statement.Level.TheVariants.{Low, Medium, High}
-use Rattle.rm_base.specs.declared.statement.PoolChange.{PoolChange}
-use Rattle.rm_base.specs.declared.statement.UserChange.{UserChange}
-use Rattle.rm_base.specs.declared.statement.Size.{Size}
-use Rattle.rm_base.specs.declared.statement.Size.TheVariants.{Bytes, Percent}
 use Rattle.rm_base.specs.declared.statement.Statement.{Statement}
-use Rattle.rm_base.specs.declared.statement.Statement.TheVariants as statement
 use Rattle.rm_base.specs.NameText.{is_bare as is_bare_name, begins_name, continues_name}
 use Rattle.rm_base.specs.Name.{name_text}
-use Rattle.rm_base.specs.RefusalText.{parameter_text}
 use Rattle.rm_base.proofs.NameLemmas.{IsNameText-from, KeepsName-from}
-use Rattle.rm_words.specs.declared.class.Class.{Class}
 use Rattle.rm_words.specs.declared.class.Class.TheVariants as class
 use Rattle.rm_words.specs.declared.spans.Span.{Span}
-use Rattle.rm_words.specs.declared.token.Symbol.TheVariants.{Minus}
 use Rattle.rm_words.specs.Class.{class_of}
-use Rattle.rm_words.specs.Word.{goes_on, is_bare, is_digit}
+use Rattle.rm_words.specs.Word.{goes_on, is_bare}
 use Rattle.rm_words.specs.Cut.{AreWords, joined, spans_from, word_at, words_at}
-use Rattle.rm_words.specs.Token.{Token, Bare, Number, Quoted, Sign, Says, doubled, folded, is_key, token_of}
+use Rattle.rm_words.specs.Token.{Token, Bare, Says, folded, token_of}
 use Rattle.rm_words.proofs.Joins.{joined_is_cut, joined_words}
-use Rattle.rm_words.proofs.Printing.{bare_says, number_says, quoted_says}
-use Rattle.pool_sql.specs.declared.shown.Value.{Value}
-use Rattle.pool_sql.specs.declared.shown.Value.TheVariants as value
-use Rattle.pool_sql.specs.declared.setting.Setting.{Setting}
-use Rattle.pool_sql.specs.declared.setting.Setting.TheVariants as setting
-use Rattle.pool_sql.specs.declared.stop.Fault.{Fault}
-use Rattle.pool_sql.specs.declared.stop.Fault.TheVariants.{Form, Outside}
-use Rattle.pool_sql.specs.declared.stop.Stop.{Stop}
-use Rattle.pool_sql.specs.Amount.{bytes, digit_count, front_number, number_of, percent, size_in, size_in_text, size_of, span_in, span_in_text, span_of, unit_of, within}
-use Rattle.pool_sql.specs.Grammar.{IsBody, create_pool, alter_pool, drop_pool, create_user, alter_user, drop_user, create_role, alter_role, drop_role, grant_usage, revoke_usage, grant_role, revoke_role, named, IsValue, one, minus, Spells, bare, key, more_keys, name}
-use Rattle.pool_sql.specs.Names.{name_called, name_of}
-use Rattle.pool_sql.specs.Parameter.{parameter_among, parameter_of, parameters, pool_parameters, user_parameters}
-use Rattle.pool_sql.specs.Printed.{keys_text, level_text, parameter_named, pool_settings, priority_value, setting_text, settings_text, statement_text, user_settings, value_in, value_or, value_text}
-use Rattle.pool_sql.specs.Right.{IsBetween, IsOptionalBetween, IsOptionalSize, IsPriority, IsRight, IsRightPool, IsRightUser, IsSize, names_any}
-use Rattle.pool_sql.specs.Setting.{is_named, is_named_pool, is_named_user, no_pool_change, no_user_change, set, set_pool, set_user}
-use Rattle.pool_sql.specs.Text.{SpellsText, token_in, tokens_in}
-use Rattle.pool_sql.specs.Value.{as_setting, is_default, is_none, negative_of, optional, optional_name, priority_of, signed, some_name, taken, value_of}
-use Rattle.pool_sql.proofs.Keys.{is_key-eq}
-use Rattle.pool_sql.proofs.NameLemmas.{name_called-none, name_called-text}
+use Rattle.rm_words.proofs.Printing.{bare_says}
+use Rattle.pool_sql.specs.Grammar.{Spells, name}
+use Rattle.pool_sql.specs.Text.{SpellsText, tokens_in}
 
 -- words say tokens, one each
 abbrev pub AllSay : List (List ℕ) → List Token → Type 0

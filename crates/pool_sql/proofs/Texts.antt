@@ -1,27 +1,30 @@
 -- laws of whole texts
-use Rattle.std.proofs.Common.{◌≡◌, ℕ, ◌⊎◌, inl, inr, Option, Some, None, Result, Ok, Err, List, [], ◌∷◌, ◌++◌, length, map, refl, sym, ◌∙◌, ap, subst, append-nil}
+use Rattle.std.proofs.Common.{◌≡◌, ◌↔◌, ℕ, true, Option, Some, None, Result, Ok, Err, List, [], ◌∷◌, ◌++◌, map, refl, sym, ◌∙◌, ap, append-nil}
 use Rattle.rm_base.specs.declared.refusal.Refusal.{Refusal}
-use Rattle.rm_base.specs.declared.refusal.Refusal.TheVariants as refusal
 use Rattle.rm_base.specs.declared.statement.Statement.{Statement}
+use Rattle.rm_base.specs.Ranges.{is_statement_in_range}
 use Rattle.rm_words.specs.declared.spans.Span.{Span}
 use Rattle.rm_words.specs.Cut.{AreWords, IsCut}
-use Rattle.rm_words.specs.Token.{Token, token_of}
+use Rattle.rm_words.specs.CutOf.{cut_of}
+use Rattle.rm_words.specs.Token.{token_of}
 use Rattle.rm_words.proofs.CutLaws.{same_cut}
+use Rattle.rm_words.proofs.CutsOf.{cut_of-cut}
 use Rattle.pool_sql.specs.declared.progress.Progress.{Progress}
 use Rattle.pool_sql.specs.declared.progress.Progress.TheVariants.{Start}
 use Rattle.pool_sql.specs.declared.stop.Stop.{Stop}
-use Rattle.pool_sql.specs.declared.stop.Stop.TheVariants as stop
 use Rattle.pool_sql.specs.Grammar.{IsFront, IsWhy, Spells}
 use Rattle.pool_sql.specs.Machine.{Stepped, finish, onward, run, step}
 use Rattle.pool_sql.specs.Right.{IsRight}
-use Rattle.pool_sql.specs.Text.{IsRefused, at_word, at_gap, at_end, IsWellFormed, BeginsText, SpellsText, refusal_at, token_in, tokens_in}
-use Rattle.pool_sql.specs.Reading.{ends, finished, next_word, read_on}
+use Rattle.pool_sql.specs.Text.{IsRefused, at_word, at_gap, at_end, IsWellFormed, BeginsText, SpellsText, token_in, tokens_in}
+use Rattle.pool_sql.specs.Reading.{finished, next_word, read_of, read_on}
 use Rattle.pool_sql.proofs.Saying.{AllSay-append, said-spells, words_say}
 use Rattle.pool_sql.proofs.Means.{not_err, ok_is}
 use Rattle.pool_sql.proofs.Complete.{run-after, spells-gives}
 use Rattle.pool_sql.proofs.Fronts.{finish-spells, front-read, read-front, said-front, sound}
 use Rattle.pool_sql.proofs.Blamed.{stopped-why, why_one}
+use Rattle.pool_sql.proofs.Readings.{read-is_refused, read-spells}
 use Rattle.pool_sql.proofs.Rights.{spelled-right}
+use Rattle.pool_sql.proofs.Ranges.{right-in_range}
 
 abbrev Read : Type 0
 Read = Result Statement Refusal
@@ -116,6 +119,29 @@ refused-reads _ _ (at_end text spans cut is_front none) =
           ∙ ap (finished text) (finish-turn text spans read.0 (finish read.0) refl read.1 none);
     }
 
+-- what the function of the text gives
+read_of-reads : (text : List ℕ) → Reads text (read_of text)
+read_of-reads text = record {
+  spans = (cut_of text).words;
+  stuck = (cut_of text).stuck;
+  cut = cut_of-cut text;
+  reads = refl;
+}
+
+pub read_of-spells : (text : List ℕ) (st : Statement) → read_of text ≡ Ok st ↔ SpellsText text st
+read_of-spells text st =
+    let cut = cut_of text in (
+      λ h. read-spells text cut.words cut.stuck st (cut_of-cut text) (sym h),
+      λ is. one_answer text (read_of text) (Ok st) (read_of-reads text) (spelled-reads text st is),
+    )
+
+pub read_of-refused : (text : List ℕ) (why : Refusal) → read_of text ≡ Err why ↔ IsRefused text why
+read_of-refused text why =
+    let cut = cut_of text in (
+      λ h. read-is_refused text cut.words cut.stuck why (cut_of-cut text) (sym h),
+      λ is. one_answer text (read_of text) (Err why) (read_of-reads text) (refused-reads text why is),
+    )
+
 ok_one : (a b : Statement) → (let x : Read = Ok a in let y : Read = Ok b in x ≡ y) → a ≡ b
 ok_one a b h = cc
 
@@ -136,6 +162,12 @@ text-refused_spells_none text why st x y = err_ok why st (one_answer text (Err w
 
 pub well_formed-right : (st : Statement) → IsWellFormed st → IsRight st
 well_formed-right st is = let spelled = is.1 in spelled-right (tokens_in is.0 spelled.0) st spelled.2
+
+pub spells-in_range : (text : List ℕ) (st : Statement) → SpellsText text st → is_statement_in_range st ≡ true
+spells-in_range text st is = right-in_range st (well_formed-right st (text, is))
+
+pub read_of-in_range : (text : List ℕ) (st : Statement) → read_of text ≡ Ok st → is_statement_in_range st ≡ true
+read_of-in_range text st h = spells-in_range text st ((read_of-spells text st).0 h)
 
 -- words with which some statement begins are the first words of a text that is one
 pub front-text : (ws : List (List ℕ)) → AreWords ws → IsFront (map token_of ws) → BeginsText ws

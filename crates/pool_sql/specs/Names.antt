@@ -1,22 +1,13 @@
--- the name that a text is
-use Rattle.std.specs.Prelude.{◌≡◌, ℕ, ◌-◌, Bool, true, false, Option, Some, None, List, ◌++◌, length, replicate, refl, codes}
-use Rattle.rm_base.specs.declared.limits.TheConstants.{NAME_MOST}
+-- the name that a token is
+use Rattle.std.specs.Prelude.{ℕ, if◌then◌else◌, Option, None, List, ◌++◌, replicate, refl, codes}
 use Rattle.rm_base.specs.declared.name.Name.{Name}
 use Rattle.rm_base.specs.NameText.{is_name_text, keeps_name}
-use Rattle.rm_words.specs.Token.{Token, Bare, Number, Quoted, Sign}
+use Rattle.rm_base.specs.Name.{name_kept, padded}
+use Rattle.rm_words.specs.Token.{Token, Bare}
 
--- the name that is kept as these bytes, if a name is
-abbrev pub name_kept : (bytes : List ℕ) (keeps : Bool) → keeps_name bytes ≡ keeps → Option Name
-name_kept bytes true h = Some (record { bytes = bytes; kept = h })
-name_kept bytes false h = None
-
-abbrev pub name_if : Bool → List ℕ → Option Name
-name_if true bytes = name_kept bytes (keeps_name bytes) refl
-name_if false bytes = None
-
--- the name whose text this is, where it is a name's
+-- the name whose text this is, where it is a name's. A token's word is in lower case already
 unfoldable pub name_called : List ℕ → Option Name
-name_called text = name_if (is_name_text text) (text ++ replicate (NAME_MOST - length text) 0)
+name_called text = if is_name_text text then name_kept (padded text) (keeps_name (padded text)) refl else None
 
 -- the name that a token is
 abbrev pub name_of : Token → Option Name

@@ -1,14 +1,12 @@
 -- the text that is printed of a statement
 use Rattle.std.specs.Prelude.{ℕ, ℤ, pos, negsuc, ◌+◌, ◌/◌, Option, Some, None, option_map, List, [], ◌∷◌, ◌++◌, codes}
 use Rattle.std.specs.Fmt.{decimal}
-use Rattle.rm_base.specs.declared.name.Name.{Name}
 use Rattle.rm_base.specs.declared.refusal.Parameter.{Parameter}
 use Rattle.rm_base.specs.declared.refusal.Parameter.TheVariants as parameter
 use Rattle.rm_base.specs.declared.statement.Level.{Level}
 use Rattle.rm_base.specs.declared.statement.Level.TheVariants.{Low, Medium, High}
 use Rattle.rm_base.specs.declared.statement.PoolChange.{PoolChange}
 use Rattle.rm_base.specs.declared.statement.UserChange.{UserChange}
-use Rattle.rm_base.specs.declared.statement.Size.{Size}
 use Rattle.rm_base.specs.declared.statement.Size.TheVariants as size
 use Rattle.rm_base.specs.declared.statement.Statement.{Statement}
 use Rattle.rm_base.specs.declared.statement.Statement.TheVariants as statement

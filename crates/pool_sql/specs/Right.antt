@@ -1,5 +1,5 @@
 -- which statements are well formed: each value that is named is one of those that can be written
-use Rattle.std.specs.Prelude.{◌≡◌, ℕ, ℤ, pos, negsuc, ◌+◌, ◌*◌, ◌≤◌, Bool, true, Option, Some, None, IfSome}
+use Rattle.std.specs.Prelude.{◌≡◌, ℕ, ℤ, pos, negsuc, ◌+◌, ◌*◌, ◌≤◌, Bool, true, Option, IfSome}
 use Rattle.std.specs.List.{list_any}
 use Rattle.rm_base.specs.declared.limits.TheConstants.{CONCURRENCY_MOST, MEMORY_MOST, SPAN_MOST, THRESHOLD_SECONDS_MOST}
 use Rattle.rm_base.specs.declared.statement.PoolChange.{PoolChange}

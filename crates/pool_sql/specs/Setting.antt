@@ -1,5 +1,5 @@
 -- what a statement says of one parameter
-use Rattle.std.specs.Prelude.{Bool, true, false, Option, Some, None, is_some}
+use Rattle.std.specs.Prelude.{Bool, false, Some, None, is_some}
 use Rattle.rm_base.specs.declared.refusal.Parameter.{Parameter}
 use Rattle.rm_base.specs.declared.refusal.Parameter.TheVariants as parameter
 use Rattle.rm_base.specs.declared.statement.PoolChange.{PoolChange}

@@ -11,14 +11,14 @@ use Rattle.rm_base.specs.declared.statement.Size.{Size}
 use Rattle.rm_base.specs.declared.statement.Size.TheVariants.{Percent}
 use Rattle.rm_base.specs.Definitions.{default_pool_row}
 use Rattle.rm_base.specs.Name.{general}
-use Rattle.rm_words.specs.Token.{Token, Bare, Number, is_key}
+use Rattle.rm_words.specs.Token.{Token, is_key}
 use Rattle.pool_sql.specs.declared.setting.Setting.{Setting}
 use Rattle.pool_sql.specs.declared.setting.Setting.TheVariants as setting
 use Rattle.pool_sql.specs.declared.stop.Fault.{Fault}
 use Rattle.pool_sql.specs.declared.stop.Fault.TheVariants.{Form, Outside}
 use Rattle.pool_sql.specs.declared.stop.Stop.{Stop}
 use Rattle.pool_sql.specs.declared.stop.Stop.TheVariants.{Syntax, NotSupported, Range}
-use Rattle.pool_sql.specs.Amount.{number_of, size_of, span_of, timeout_of, within}
+use Rattle.pool_sql.specs.Amount.{number_of, size_of, span_of, timeout_of}
 use Rattle.pool_sql.specs.Names.{name_of}
 
 abbrev pub is_default : Token → Bool

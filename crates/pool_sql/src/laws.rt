@@ -1,11 +1,13 @@
 //! What holds of every text and every statement, each law a function that does nothing.
 
-ghost use Rattle.std.specs.Prelude.{◌≡◌, ◌↔◌, ℕ, List, map};
+ghost use Rattle.std.specs.Prelude.{◌≡◌, ◌↔◌, ℕ, true, Ok, Err, List, map};
 ghost use Rattle.rm_base.specs.declared.refusal.Refusal.{Refusal};
 ghost use Rattle.rm_base.specs.declared.statement.Statement.{Statement};
+ghost use Rattle.rm_base.specs.Ranges.{is_statement_in_range};
 ghost use Rattle.rm_words.specs.Cut.{AreWords};
 ghost use Rattle.rm_words.specs.Token.{token_of};
 ghost use Rattle.pool_sql.specs.Grammar.{IsFront};
+ghost use Rattle.pool_sql.specs.Reading.{read_of};
 ghost use Rattle.pool_sql.specs.Right.{IsRight};
 ghost use Rattle.pool_sql.specs.Text.{BeginsText, IsRefused, IsWellFormed, SpellsText};
 
@@ -23,6 +25,24 @@ pub fn one_refusal()
 pub fn refused_spells_none()
     ensures { (text : List ℕ) (refusal : Refusal) (statement : Statement)
         → IsRefused text refusal → SpellsText text statement → ⊥ }
+{}
+
+/// What a text is read as is the statement that it is.
+pub fn read_of_spells()
+    ensures { (text : List ℕ) (statement : Statement)
+        → read_of text ≡ Ok statement ↔ SpellsText text statement }
+{}
+
+/// A text is read as none exactly where it is refused, and for the same reason.
+pub fn read_of_refused()
+    ensures { (text : List ℕ) (refusal : Refusal)
+        → read_of text ≡ Err refusal ↔ IsRefused text refusal }
+{}
+
+/// Every value of a statement that is read is in its range.
+pub fn read_of_in_range()
+    ensures { (text : List ℕ) (statement : Statement)
+        → read_of text ≡ Ok statement → is_statement_in_range statement ≡ true }
 {}
 
 /// Some text is a statement exactly where its values are in their ranges.

@@ -1,7 +1,8 @@
-ghost use Rattle.std.specs.Prelude.{◌≡◌, All, IfOk, IfErr};
+ghost use Rattle.std.specs.Prelude.{◌≡◌, true, Ok, All, IfOk, IfErr};
+ghost use Rattle.rm_base.specs.Ranges.{is_statement_in_range};
 ghost use Rattle.rm_words.specs.Cut.{IsWordOf};
 ghost use Rattle.pool_sql.specs.declared.progress.Progress.TheVariants.{Start};
-ghost use Rattle.pool_sql.specs.Reading.{IsReadError, ends, read_on};
+ghost use Rattle.pool_sql.specs.Reading.{IsReadAsNone, IsReadError, ends, read_of, read_on};
 ghost use Rattle.pool_sql.specs.Text.{SpellsText};
 
 use crate::progress::Progress;
@@ -59,6 +60,9 @@ fn read_words(text: &str, words: &[Span], stuck: Option<u64>) -> Result<Statemen
 pub fn read_statement(alloc: Global, text: &str) -> Result<Statement, ReadError>
     ensures statement { IfOk result (SpellsText text.now) }
     ensures refused { IfErr result (IsReadError text.now) }
+    ensures read { IfOk result (λ statement. read_of text.now ≡ Ok statement) }
+    ensures read_as_none { IfErr result (IsReadAsNone text.now) }
+    ensures in_range { IfOk result (λ statement. is_statement_in_range statement ≡ true) }
 {
     let Cut { words, stuck } = cut(alloc, text.as_bytes())?;
     match read_words(text, words.as_slice(), stuck) {

@@ -68,3 +68,9 @@ pub const SCRIPT_MOST: usize = 67_108_864;
 
 /// The longest line of a script, in bytes, its line end not counted.
 pub const LINE_MOST: usize = 65_536;
+
+/// The longest file that is loaded, in bytes: 64 MiB.
+pub const FILE_MOST: usize = 67_108_864;
+
+/// The longest file of a spool, in bytes: 2^63 - 1.
+pub const SPOOL_FILE_MOST: u64 = 9_223_372_036_854_775_807;

@@ -2,7 +2,7 @@
 use Rattle.std.proofs.Common.{◌≡◌, ◌∙◌, ◌<◌, ◌≤◌, ◌^◌, ℕ, zero, suc, List, [], ◌∷◌, Option, None, length, get_or, set, is_some, unwrap_or, true, refl, sym, ap, subst, arith}
 use Rattle.std.proofs.lemmas.List.{set-get_or, get_or_default}
 use Rattle.std.proofs.lemmas.Grind.{common_steps}
-use Rattle.rm_outside.specs.declared.spool.TheConstants.{SPOOL_FILE_MOST}
+use Rattle.rm_base.specs.declared.limits.TheConstants.{SPOOL_FILE_MOST}
 use Rattle.rm_outside.specs.Slots.{files_of, slot_at}
 use Rattle.rm_outside.specs.Spool.{ExtendsByFront}
 

@@ -4,7 +4,7 @@ use Rattle.std.specs.Map.{lookup}
 use Rattle.std.specs.Str.{bytes_eq}
 use Rattle.rm_outside.specs.declared.shelf.ShelfError.{ShelfError}
 use Rattle.rm_outside.specs.declared.shelf.ShelfError.TheVariants.{Failed, Missing, TooLong, Memory}
-use Rattle.rm_outside.specs.declared.shelf.TheConstants.{FILE_MOST}
+use Rattle.rm_base.specs.declared.limits.TheConstants.{FILE_MOST}
 use Rattle.rm_outside.specs.Faults.{Rose}
 
 -- a load answers Failed only where the count of faults rose, and a file that is missing counts nothing

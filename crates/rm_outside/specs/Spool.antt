@@ -1,6 +1,6 @@
 use Rattle.std.specs.Prelude.{◌≡◌, ◌≢◌, ◌+◌, ◌≤◌, ℕ, Bool, true, false, List, [], length, take, drop, Option, Some, None, ⊤, ◌⊎◌}
 use Rattle.std.specs.Io.KnownBytes.{Keeps, Appends}
-use Rattle.rm_outside.specs.declared.spool.TheConstants.{SPOOL_FILE_MOST}
+use Rattle.rm_base.specs.declared.limits.TheConstants.{SPOOL_FILE_MOST}
 use Rattle.rm_outside.specs.Faults.{counted}
 
 -- what a spool tells of its files, by their numbers

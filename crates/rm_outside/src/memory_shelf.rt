@@ -3,7 +3,8 @@ ghost use Rattle.std.specs.Option.{option_copied};
 ghost use Rattle.std.specs.String.{string_bytes};
 ghost use Rattle.rm_outside.specs.Shelf.{file_at};
 
-use crate::shelf::{FILE_MOST, Shelf, ShelfError};
+use crate::shelf::{Shelf, ShelfError};
+use rm_base::limits::FILE_MOST;
 use std::alloc::{AllocError, Global};
 use std::marker::Model;
 

@@ -1,5 +1,5 @@
 ghost use Rattle.std.specs.Prelude.{◌≡◌, ◌≤◌, ◌++◌, [], Some, None, length, min, take, drop, refl, IsSome, OnOk, OnErr, unwrap_or};
-ghost use Rattle.rm_outside.specs.declared.spool.TheConstants.{SPOOL_FILE_MOST};
+ghost use Rattle.rm_base.specs.declared.limits.TheConstants.{SPOOL_FILE_MOST};
 ghost use Rattle.rm_outside.specs.Slots.{files_of};
 
 use crate::copy::copy_front;

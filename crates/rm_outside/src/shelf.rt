@@ -1,12 +1,9 @@
 ghost use Rattle.std.specs.Prelude.{◌≡◌, ◌≤◌, ℕ, List, Option, IfSome, IfOk, IfErr, vec_len};
 ghost use Rattle.rm_outside.specs.declared.shelf.ShelfError.TheVariants.{Memory};
-ghost use Rattle.rm_outside.specs.declared.shelf.TheConstants.{FILE_MOST};
+ghost use Rattle.rm_base.specs.declared.limits.TheConstants.{FILE_MOST};
 ghost use Rattle.rm_outside.specs.Shelf.{HasShelfCause, IsWholeFile, Explains};
 
 use std::alloc::{AllocError, AllocFailed, Global};
-
-/// The longest file that a load gives, in bytes: 64 MiB.
-pub const FILE_MOST: usize = 67_108_864;
 
 /// Why a file was not loaded.
 #[derive(Clone, Copy, Debug, PartialEq, Eq)]

@@ -2,13 +2,10 @@ ghost use Rattle.std.specs.Prelude.{◌≡◌, ◌-◌, ◌≤◌, ℕ, length, 
 ghost use Rattle.std.specs.Io.{ReadsAtMost};
 ghost use Rattle.rm_outside.specs.Faults.{HasCause, counted};
 ghost use Rattle.rm_outside.specs.Spool.{Files, FilesStay, Creates, Extends, ExtendsByFront, Removes, IsBare, IsPart};
-ghost use Rattle.rm_outside.specs.declared.spool.TheConstants.{SPOOL_FILE_MOST};
+ghost use Rattle.rm_base.specs.declared.limits.TheConstants.{SPOOL_FILE_MOST};
 
 use crate::outside::Outside;
 use std::alloc::Global;
-
-/// The longest file of a spool, in bytes: 2^63 - 1.
-pub const SPOOL_FILE_MOST: u64 = 9_223_372_036_854_775_807;
 
 /// The number of a file of a spool.
 #[derive(Clone, Copy, Debug, PartialEq, Eq)]

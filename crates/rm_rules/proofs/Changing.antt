@@ -23,14 +23,14 @@ use Rattle.rm_rules.specs.declared.state.Waiter.{Waiter}
 use Rattle.rm_rules.specs.declared.state.Runner.{Runner}
 use Rattle.rm_rules.specs.Definitions.{user_called, pool_row, usage}
 use Rattle.rm_rules.specs.Budget.{is_too_large}
-use Rattle.rm_rules.specs.State.{State, session_called, session_of, if_opened_by, session_pool, phase_of, with_phase, with_choice, without_runner, is_idle, is_active, is_waiting, is_running, live_queries, active_queries, counted_entries}
+use Rattle.rm_rules.specs.State.{State, session_called, session_of, if_opened_by, session_pool, phase_of, with_phase, without_runner, is_idle, is_active, is_waiting, is_running, live_queries, active_queries, counted_entries}
 use Rattle.rm_rules.specs.Accounting.{used, grant_in, reserves}
 use Rattle.rm_rules.specs.Acceptance.{accepted}
 use Rattle.rm_rules.specs.Change.{Says, Tells, Change, change, quiet, defining_to, defining, defined, opening, opened, new_session, has_chosen, choosing, chosen, submitting, submitted, new_waiter, polling_in, polling, collected, finishing, finishing_with, finished, runner_of, is_journal_full}
 use Rattle.rm_rules.specs.Step.{IsFormed}
 use Rattle.rm_rules.specs.Sound.{has_pool}
 use Rattle.rm_base.specs.Ranges.{passes_if_set}
-use Rattle.rm_rules.specs.Healthy.{IsHeld, AreInPhase, counted_for, defining_for, one_if}
+use Rattle.rm_rules.specs.Healthy.{IsHeld, AreInPhase, AreNumbered, counted_for, defining_for, one_if}
 use Rattle.rm_rules.proofs.Taken.{sum_without, length_without, found_passes, all_without, all_push, all_found, not_true}
 use Rattle.rm_rules.proofs.Phases.{phase_of-with_other, phase_of-with_same, length-with, live-with, active-with, phase_of-found, phase_of-push, live-push, active-push, phase_of-choice, length-choice, count-choice}
 use Rattle.rm_rules.proofs.Bytes.{debts-less}
@@ -89,6 +89,7 @@ kept-opened s seat user c h o =
         active = h.in_phase.active ∙ sym (active-push s.sessions y refl);
         few = omega (arith, o.few, length_push s.sessions y);
       };
+      numbered = record { once = h.numbered.once; given = h.numbered.given };
       room = record {
         kept = omega (arith, o.room, live-push s.sessions y refl, length_push s.sessions y);
         defined = h.room.defined;
@@ -121,7 +122,7 @@ idle-phase phase.Waiting h = absurd (false≢true h)
 idle-phase phase.Running h = absurd (false≢true h)
 idle-phase (phase.Ended end) h = absurd (false≢true h)
 
-running-phase : (p : Phase) → is_running p ≡ true → (is_waiting p ≡ false) × (is_idle p ≡ false)
+pub running-phase : (p : Phase) → is_running p ≡ true → (is_waiting p ≡ false) × (is_idle p ≡ false)
 running-phase phase.Idle h = absurd (false≢true h)
 running-phase phase.Waiting h = absurd (false≢true h)
 running-phase phase.Running h = (refl, refl)
@@ -186,6 +187,23 @@ submit-turn s x w n false differs of h found idle =
       omega (arith, h.runs n, ap (λ p. one_if (is_running p)) now),
     )
 
+-- how often a number is given, with one more of the next number
+counts-turn : (last n q a b c : ℕ) (same : Bool) → eqb q n ≡ same → q ≡ last + 1 → a ≡ b + cond same 1 0 → b + c ≤ 1 → (last < n → b + c ≡ 0)
+    → (a + c ≤ 1) × (last + 1 < n → a + c ≡ 0)
+counts-turn last n q a b c true e next more once given =
+    let is : q ≡ n = eqb-true q n e in
+    let none : b + c ≡ 0 = given (omega (arith, is, next)) in
+    (omega (arith, more, none), λ above. absurd (omega (arith, above, is, next)))
+counts-turn last n q a b c false e next more once given = (omega (arith, more, once), λ above. let none : b + c ≡ 0 = given (omega (arith, above)) in omega (arith, more, none))
+
+pub numbered-submitted : (s : State) (w : Waiter) → AreNumbered s → w.query ≡ s.last_query + 1
+    → (let t : State = record s { waiting = s.waiting ++ w ∷ []; last_query = s.last_query + 1 } in AreNumbered t)
+numbered-submitted s w h next =
+    let turn = λ (n : ℕ).
+    counts-turn s.last_query n w.query (count_by (λ (z : Waiter). eqb z.query n) (s.waiting ++ w ∷ [])) (count_by (λ (z : Waiter). eqb z.query n) s.waiting)
+    (count_by (λ (r : Runner). eqb r.query n) s.running) (eqb w.query n) refl next (sum_by_push (λ (z : Waiter). cond (eqb z.query n) 1 0) s.waiting w) (h.once n) (h.given n) in
+    record { once = λ n. (turn n).0; given = λ n above. (turn n).1 above }
+
 pub kept-submitted : (s : State) (x : Session) (floor : ℕ) → AreKept 0 0 s → session_called s.sessions x.number ≡ Some x → is_idle x.phase ≡ true
     → counted_entries s.journal + 1 + ENTRIES_A_QUERY * (live_queries s.sessions + 1) + ENTRIES_A_SESSION * length s.sessions ≤ s.room
     → AreHeld 1 0 (submitted s x (session_pool s.definitions x) floor).state
@@ -216,6 +234,7 @@ kept-submitted s x floor h found idle room =
         active = omega (arith, h.in_phase.active, active, length_push s.waiting w);
         few = omega (arith, h.in_phase.few, length-with x.number phase.Waiting s.sessions);
       };
+      numbered = let t = numbered-submitted s w h.numbered refl in record { once = t.once; given = t.given };
       room = record {
         kept = omega (arith, room, live, length-with x.number phase.Waiting s.sessions);
         defined = h.room.defined;
@@ -265,6 +284,13 @@ finish-turn s x r n false differs h found running runs =
       omega (arith, sum_without (λ (z : Runner). cond (eqb z.session n) 1 0) (λ z. eqb z.session x.number) r s.running runs, taken, h.runs n, ap (λ p. one_if (is_running p)) now),
     )
 
+-- a query that ends leaves its number to nobody
+numbered-finished : (s : State) (x : Session) (r : Runner) → AreNumbered s → runner_of s.running x.number ≡ Some r
+    → (let t : State = record s { running = without_runner x.number s.running } in AreNumbered t)
+numbered-finished s x r h runs =
+    let less = λ (n : ℕ). sum_without (λ (z : Runner). cond (eqb z.query n) 1 0) (λ z. eqb z.session x.number) r s.running runs in
+    record { once = λ n. omega (arith, less n, h.once n); given = λ n above. omega (arith, less n, h.given n above) }
+
 pub kept-finished : (s : State) (x : Session) (r : Runner) → AreKept 0 0 s → session_called s.sessions x.number ≡ Some x → is_running x.phase ≡ true
     → runner_of s.running x.number ≡ Some r → AreHeld 1 0 (finished s x r).state
 kept-finished s x r h found running runs =
@@ -295,6 +321,7 @@ kept-finished s x r h found running runs =
         active = omega (arith, h.in_phase.active, active, length_without (λ (z : Runner). eqb z.session x.number) r s.running runs);
         few = omega (arith, h.in_phase.few, length-with x.number phase.Idle s.sessions);
       };
+      numbered = let t = numbered-finished s x r h.numbered runs in record { once = t.once; given = t.given };
       room = record {
         kept = omega (arith, h.room.kept, live, length-with x.number phase.Idle s.sessions);
         defined = h.room.defined;
@@ -326,6 +353,7 @@ kept-defined s statement new formed h accepts =
       sound = accepted-sound s.definitions statement new h.sound formed.1 formed.0 accepts;
       held = subst (λ d. IsHeld (defined s d).state) row.1 (held-defined s row.0 h.sound h.covered.held);
       in_phase = record { waits = h.in_phase.waits; runs = h.in_phase.runs; active = h.in_phase.active; few = h.in_phase.few };
+      numbered = record { once = h.numbered.once; given = h.numbered.given };
       room = record {
         kept = h.room.kept;
         defined = omega (arith, h.room.defined, counted.changes);
@@ -337,15 +365,15 @@ kept-defined s statement new formed h accepts =
 -- SetPool: nothing changes, or the choice of a session
 pub data Chooses (s : State) (o : Option Session) (pool : Name) : Change → Type 0 where
   stays : Chooses s o pool (quiet s (Says reply.Set))
-  changes : (x : Session) → o ≡ Some x → has_pool s.definitions pool ≡ true
+  changes : (x : Session) → o ≡ Some x → has_chosen x pool ≡ false → has_pool s.definitions pool ≡ true
       → counted_entries s.journal + 1 + ENTRIES_A_QUERY * live_queries s.sessions + ENTRIES_A_SESSION * length s.sessions ≤ s.room
       → Chooses s o pool (chosen s x pool)
 
-chosen-turn : (s : State) (x : Session) (pool : Name) (c : Change) (b : Bool) → has_pool s.definitions pool ≡ true
+chosen-turn : (s : State) (x : Session) (pool : Name) (c : Change) (b : Bool) → has_chosen x pool ≡ b → has_pool s.definitions pool ≡ true
     → counted_entries s.journal + 1 + ENTRIES_A_QUERY * live_queries s.sessions + ENTRIES_A_SESSION * length s.sessions ≤ s.room
     → cond {A = Result Change Refusal} b (Ok (quiet s (Says reply.Set))) (Ok (chosen s x pool)) ≡ Ok c → Chooses s (Some x) pool c
-chosen-turn s x pool c true there room h = let is : quiet s (Says reply.Set) ≡ c = let e = h in cc in subst (Chooses s (Some x) pool) is stays
-chosen-turn s x pool c false there room h = let is : chosen s x pool ≡ c = let e = h in cc in subst (Chooses s (Some x) pool) is (changes x refl there room)
+chosen-turn s x pool c true e there room h = let is : quiet s (Says reply.Set) ≡ c = let k = h in cc in subst (Chooses s (Some x) pool) is stays
+chosen-turn s x pool c false e there room h = let is : chosen s x pool ≡ c = let k = h in cc in subst (Chooses s (Some x) pool) is (changes x refl e there room)
 
 pub choosing-ok : (s : State) (o : Option Session) (pool : Name) (c : Change) → choosing s o pool ≡ Ok c → Chooses s o pool c
 choosing-ok s None pool c h = absurd (cc)
@@ -353,7 +381,7 @@ choosing-ok s (Some x) pool c h =
     let there = unless_ok (not (has_pool s.definitions pool)) _ _ c h in
     let may = unless_ok (not (usage s.definitions x.user pool)) _ _ c there.1 in
     let room = unless_ok (is_journal_full s (live_queries s.sessions) (length s.sessions)) _ _ c may.1 in
-    chosen-turn s x pool c (has_chosen x pool) (not_true (has_pool s.definitions pool) there.0) (not_below _ _ room.0) room.1
+    chosen-turn s x pool c (has_chosen x pool) refl (not_true (has_pool s.definitions pool) there.0) (not_below _ _ room.0) room.1
 
 pub kept-chosen : (s : State) (x : Session) (pool : Name) → AreKept 0 0 s → has_pool s.definitions pool ≡ true
     → counted_entries s.journal + 1 + ENTRIES_A_QUERY * live_queries s.sessions + ENTRIES_A_SESSION * length s.sessions ≤ s.room
@@ -376,6 +404,7 @@ kept-chosen s x pool h there room = record {
     active = h.in_phase.active ∙ sym (count-choice is_active x.number pool s.sessions);
     few = omega (arith, h.in_phase.few, length-choice x.number pool s.sessions);
   };
+  numbered = record { once = h.numbered.once; given = h.numbered.given };
   room = record {
     kept = omega (arith, room, count-choice (λ p. not (is_idle p)) x.number pool s.sessions, length-choice x.number pool s.sessions);
     defined = h.room.defined;
@@ -444,6 +473,7 @@ kept-collected s x end h found ended =
         active = h.in_phase.active ∙ sym active;
         few = omega (arith, h.in_phase.few, length-with x.number phase.Idle s.sessions);
       };
+      numbered = record { once = h.numbered.once; given = h.numbered.given };
       room = record {
         kept = omega (arith, h.room.kept, live, length-with x.number phase.Idle s.sessions);
         defined = h.room.defined;
@@ -456,7 +486,7 @@ kept-collected s x end h found ended =
 pub data IsChange (s : State) (seat : ℕ) : Event → Change → Type 0 where
   defines : (statement : Statement) (new : Definitions) → accepted s.definitions statement ≡ Ok new → IsChange s seat (Define statement) (defined s new)
   opens : (user : Name) → Opens s seat user (opened s seat user) → IsChange s seat (Open user) (opened s seat user)
-  chooses : (session : ℕ) (pool : Name) (x : Session) → session_of s seat session ≡ Some x → has_pool s.definitions pool ≡ true
+  chooses : (session : ℕ) (pool : Name) (x : Session) → session_of s seat session ≡ Some x → has_chosen x pool ≡ false → has_pool s.definitions pool ≡ true
       → counted_entries s.journal + 1 + ENTRIES_A_QUERY * live_queries s.sessions + ENTRIES_A_SESSION * length s.sessions ≤ s.room
       → IsChange s seat (SetPool session pool) (chosen s x pool)
   submits : (session floor : ℕ) (x : Session) → session_of s seat session ≡ Some x → is_idle x.phase ≡ true
@@ -470,7 +500,7 @@ pub data IsChange (s : State) (seat : ℕ) : Event → Change → Type 0 where
 choose-changes : (s : State) (seat session : ℕ) (pool : Name) (c : Change) → Chooses s (session_of s seat session) pool c → c.changed ≡ true
     → IsChange s seat (SetPool session pool) c
 choose-changes s seat session pool _ stays loud = absurd (false≢true loud)
-choose-changes s seat session pool _ (changes x found there room) loud = chooses session pool x found there room
+choose-changes s seat session pool _ (changes x found other there room) loud = chooses session pool x found other there room
 
 poll-changes : (s : State) (seat session : ℕ) (c : Change) → Polls s (session_of s seat session) c → c.changed ≡ true → IsChange s seat (Poll session) c
 poll-changes s seat session _ (tells x found) loud = absurd (false≢true loud)
@@ -496,7 +526,7 @@ pub kept-changed : (s : State) (seat : ℕ) (event : Event) (c : Change) → IsF
     → AreHeld (counted_for c.answer) (defining_for c.answer) c.state
 kept-changed s seat _ _ formed h (defines statement new accepts) = kept-defined s statement new formed h accepts
 kept-changed s seat _ _ formed h (opens user o) = kept-opened s seat user (opened s seat user) h o
-kept-changed s seat _ _ formed h (chooses session pool x found there room) = kept-chosen s x pool h there room
+kept-changed s seat _ _ formed h (chooses session pool x found other there room) = kept-chosen s x pool h there room
 kept-changed s seat _ _ formed h (submits session floor x found idle room) = kept-submitted s x floor h (session_of-found s seat session x found) idle room
 kept-changed s seat _ _ formed h (collects session x end found ended) = kept-collected s x end h (session_of-found s seat session x found) ended
 kept-changed s seat _ _ formed h (finishes session x r found running runs) = kept-finished s x r h (session_of-found s seat session x found) running runs
@@ -511,7 +541,7 @@ pub record LeavesRest (s t : State) : Type 0 where
 pub rest-changed : (s : State) (seat : ℕ) (event : Event) (c : Change) → IsChange s seat event c → LeavesRest s c.state
 rest-changed s seat _ _ (defines statement new accepts) = record { journal = refl; clock = refl; room = refl; force = refl }
 rest-changed s seat _ _ (opens user o) = record { journal = refl; clock = refl; room = refl; force = refl }
-rest-changed s seat _ _ (chooses session pool x found there room) = record { journal = refl; clock = refl; room = refl; force = refl }
+rest-changed s seat _ _ (chooses session pool x found other there room) = record { journal = refl; clock = refl; room = refl; force = refl }
 rest-changed s seat _ _ (submits session floor x found idle room) = record { journal = refl; clock = refl; room = refl; force = refl }
 rest-changed s seat _ _ (collects session x end found ended) = record { journal = refl; clock = refl; room = refl; force = refl }
 rest-changed s seat _ _ (finishes session x r found running runs) = record { journal = refl; clock = refl; room = refl; force = refl }

@@ -1,5 +1,5 @@
 -- What an accepted statement leaves of the bytes, before the sizes are shuffled.
-use Rattle.std.proofs.Common.{◌≡◌, ℕ, ◌+◌, ◌-◌, ◌≤◌, Bool, true, false, cond, ltb, List, [], ◌∷◌, ◌++◌, length, Some, Result, Ok, refl, sym, ap, ◌∙◌, subst, arith, sum, sum_by, map}
+use Rattle.std.proofs.Common.{◌≡◌, ℕ, ◌+◌, ◌-◌, Bool, true, false, cond, ltb, List, [], ◌∷◌, ◌++◌, length, Some, Ok, refl, sym, ap, ◌∙◌, subst, arith, sum, sum_by}
 use Rattle.std.specs.List.{list_all, zip}
 use Rattle.std.specs.Option.{is_some}
 use Rattle.std.proofs.lemmas.Bool.{false≢true}
@@ -8,11 +8,10 @@ use Rattle.std.proofs.lemmas.List.{length_push}
 use Rattle.std.proofs.lemmas.List.Sums.{sum_by-cons, sum_by_push}
 use Rattle.rm_base.specs.declared.definitions.Definitions.{Definitions}
 use Rattle.rm_base.specs.declared.name.Name.{Name}
-use Rattle.rm_base.specs.declared.refusal.Refusal.{Refusal}
 use Rattle.rm_base.specs.declared.rows.PoolRow.{PoolRow}
 use Rattle.rm_base.specs.declared.statement.Statement.{Statement}
 use Rattle.rm_base.specs.declared.statement.Statement.TheVariants.{CreatePool, AlterPool}
-use Rattle.rm_base.specs.Name.{same_name, general}
+use Rattle.rm_base.specs.Name.{same_name}
 use Rattle.rm_base.specs.Ranges.{passes_if_set}
 use Rattle.rm_base.proofs.Names.{same_name-eq}
 use Rattle.rm_rules.specs.declared.state.Runner.{Runner}

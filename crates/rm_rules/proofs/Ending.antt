@@ -1,20 +1,19 @@
 -- What a waiting query that ends in the queue leaves as it was.
-use Rattle.std.proofs.Common.{◌≡◌, ℕ, ◌+◌, ◌≤◌, Bool, true, false, not, cond, eqb, List, [], ◌∷◌, length, Some, Option, refl, ap, ◌∙◌, subst, arith, count_by}
-use Rattle.std.specs.List.{find, list_all}
-use Rattle.std.proofs.lemmas.Bool.{eqb-true, eq-eqb}
+use Rattle.std.proofs.Common.{◌≡◌, ℕ, ◌+◌, Bool, true, false, not, cond, eqb, List, [], ◌∷◌, length, Some, refl, ap, ◌∙◌, subst, arith, count_by}
+use Rattle.std.specs.List.{find}
+use Rattle.std.proofs.lemmas.Bool.{eqb-true}
 use Rattle.rm_base.specs.declared.entry.EndCounts.{EndCounts}
 use Rattle.rm_base.specs.declared.name.Name.{Name}
 use Rattle.rm_base.specs.declared.reply.End.{End}
 use Rattle.rm_base.specs.declared.rows.PoolRow.{PoolRow}
 use Rattle.rm_base.specs.Name.{same_name}
-use Rattle.rm_rules.specs.declared.state.Phase.{Phase}
 use Rattle.rm_rules.specs.declared.state.Phase.TheVariants as phase
 use Rattle.rm_rules.specs.declared.state.Waiter.{Waiter}
 use Rattle.rm_rules.specs.declared.state.Runner.{Runner}
-use Rattle.rm_rules.specs.State.{State, phase_of, with_phase, with_one_end, with_end, without_waiter, is_idle, is_active, is_waiting, is_running, live_queries, active_queries}
+use Rattle.rm_rules.specs.State.{State, phase_of, with_phase, with_one_end, with_end, without_waiter, is_idle, is_active, is_waiting, is_running, active_queries}
 use Rattle.rm_rules.specs.Settle.{ended_as}
 use Rattle.rm_rules.specs.Sound.{has_pool}
-use Rattle.rm_rules.specs.Healthy.{IsHeld, AreInPhase, HasRoom, one_if}
+use Rattle.rm_rules.specs.Healthy.{IsHeld, AreInPhase, AreNumbered, HasRoom, one_if}
 use Rattle.rm_rules.proofs.Taken.{sum_without, length_without, found_passes, all_without}
 use Rattle.rm_rules.proofs.Phases.{phase_of-with_other, phase_of-with_same, length-with, live-with, active-with, open_if_live}
 use Rattle.rm_rules.proofs.Known.{chosen-with}
@@ -82,6 +81,13 @@ in_phase-ended end s w h among =
       active = omega (arith, h.active, active, length_without (λ (x : Waiter). eqb x.session w.session) found.0 s.waiting found.1);
       few = omega (arith, h.few, length-with w.session (phase.Ended end) s.sessions);
     }
+
+-- a query that ends leaves its number to nobody
+pub numbered-ended : (end : End) (s : State) (w : Waiter) → AreNumbered s → IsAmong w s.waiting → AreNumbered (ended_as end s w)
+numbered-ended end s w h among =
+    let found = waiter_found s w among in
+    let less = λ (n : ℕ). sum_without (λ (x : Waiter). cond (eqb x.query n) 1 0) (λ x. eqb x.session w.session) found.0 s.waiting found.1 in
+    record { once = λ n. omega (arith, less n, h.once n); given = λ n above. omega (arith, less n, h.given n above) }
 
 -- an end that nobody has collected is live
 pub room-ended : (k d : ℕ) (end : End) (s : State) (w : Waiter) → AreInPhase s → HasRoom k d s → IsAmong w s.waiting → HasRoom k d (ended_as end s w)

@@ -26,13 +26,14 @@ use Rattle.rm_rules.specs.State.{State, start, no_ends, session_called, session_
 use Rattle.rm_rules.specs.Accounting.{debt, reserves}
 use Rattle.rm_rules.specs.Settle.{settled}
 use Rattle.rm_rules.specs.Change.{Answer, is_defining, Change, change, defined, opened, chosen, submitted, collected, finished, told, told_in_phase, told_running, told_waiting, runner_of, waiter_of, reply_of}
-use Rattle.rm_rules.specs.Step.{Outcome, noted, recorded, accepted, quietly, outcome, IsFormed, moved_to, step, made, replay, IsLegal, own_entries, is_define, FromFirst}
+use Rattle.rm_rules.specs.Step.{Outcome, noted, recorded, accepted, quietly, outcome, IsFormed, IsSameButClock, moved_to, step, made, replay, IsLegal, own_entries, is_define, FromFirst}
 use Rattle.rm_rules.specs.Sound.{IsSound, begins_with_general}
-use Rattle.rm_rules.specs.Healthy.{IsHeld, HasRoom, IsHealthy, counted_for, defining_for, IsUnsettled}
+use Rattle.rm_rules.specs.Healthy.{HasRoom, IsHealthy, counted_for, defining_for, IsUnsettled}
 use Rattle.rm_rules.specs.Conserved.{IsConserved, KeepsGrants, RaisesForce, ConservedAfterEach}
 use Rattle.rm_rules.proofs.Moving.{AreKept}
 use Rattle.rm_rules.proofs.Settling.{kept-settled, journal-settled, clock-settled, definitions-settled, more-settled, force-settled}
 use Rattle.rm_rules.proofs.Changing.{IsChange, defines, opens, chooses, submits, collects, finishes, changed-is, kept-changed, rest-changed, session_of-number}
+use Rattle.rm_rules.proofs.Loud.{loud-change}
 use Rattle.rm_rules.proofs.Conserved.{conserved}
 
 -- what a session is told is no acceptance of a statement
@@ -63,7 +64,7 @@ told-plain s n =
 answer-as : (s t : State) (seat : ℕ) (event : Event) (c : Change) → IsChange s seat event c → is_defined (reply_of t c.answer) ≡ is_defining c.answer
 answer-as s t seat _ _ (defines statement new accepts) = refl
 answer-as s t seat _ _ (opens user o) = refl
-answer-as s t seat _ _ (chooses session pool x found there room) = refl
+answer-as s t seat _ _ (chooses session pool x found other there room) = refl
 answer-as s t seat _ _ (submits session floor x found idle room) = told-plain t x.number
 answer-as s t seat _ _ (collects session x end found ended) = refl
 answer-as s t seat _ _ (finishes session x r found running runs) = refl
@@ -105,6 +106,7 @@ kept-recorded s e answer is h = record {
     full_above_total = h.covered.full_above_total;
   };
   in_phase = record { waits = h.in_phase.waits; runs = h.in_phase.runs; active = h.in_phase.active; few = h.in_phase.few };
+  numbered = record { once = h.numbered.once; given = h.numbered.given };
   room = kept-turn s e (is_defining answer) is h;
 }
 
@@ -127,14 +129,15 @@ kept-moved s at h = record {
     full_above_total = h.covered.full_above_total;
   };
   in_phase = record { waits = h.in_phase.waits; runs = h.in_phase.runs; active = h.in_phase.active; few = h.in_phase.few };
+  numbered = record { once = h.numbered.once; given = h.numbered.given };
   room = record { kept = h.room.kept; defined = h.room.defined; sessions = h.room.sessions; queries = h.room.queries };
 }
 
 from_healthy : (s : State) → IsHealthy s → AreKept 0 0 s
-from_healthy s h = record { sound = h.sound; covered = h.covered; in_phase = h.in_phase; room = h.room }
+from_healthy s h = record { sound = h.sound; covered = h.covered; in_phase = h.in_phase; numbered = h.numbered; room = h.room }
 
 to_healthy : (s : State) → AreKept 0 0 s → IsHealthy s
-to_healthy s h = record { sound = h.sound; covered = h.covered; in_phase = h.in_phase; room = h.room }
+to_healthy s h = record { sound = h.sound; covered = h.covered; in_phase = h.in_phase; numbered = h.numbered; room = h.room }
 
 pub moved-facts : (s : State) (at : ℕ) → IsHealthy s → IsHealthy (moved_to s at)
 moved-facts s at h = to_healthy (moved_to s at) (kept-moved s at (from_healthy s h))
@@ -142,7 +145,7 @@ moved-facts s at h = to_healthy (moved_to s at) (kept-moved s at (from_healthy s
 pub changed-facts : (s : State) (seat : ℕ) (event : Event) (c : Change) → IsHealthy s → IsFormed event → change s seat event ≡ Ok c → c.changed ≡ true → IsUnsettled c.answer c.state
 changed-facts s seat event c h formed ok loud =
     let k = kept-changed s seat event c formed (from_healthy s h) (changed-is s seat event c ok loud) in
-    record { sound = k.sound; held = k.held; in_phase = k.in_phase; room = k.room }
+    record { sound = k.sound; held = k.held; in_phase = k.in_phase; numbered = k.numbered; room = k.room }
 
 -- a change that settles and is noted
 accepted-kept : (s : State) (seat : ℕ) (event : Event) (c : Change) → IsChange s seat event c → IsFormed event → AreKept 0 0 s
@@ -202,6 +205,7 @@ healthy-start d room sound = record {
     full_above_total = λ above. absurd (omega (arith, above));
   };
   in_phase = record { waits = λ n. refl; runs = λ n. refl; active = refl; few = omega arith };
+  numbered = record { once = λ n. omega arith; given = λ n above. refl };
   room = record { kept = omega arith; defined = omega arith; sessions = omega arith; queries = omega arith };
 }
 
@@ -356,7 +360,7 @@ plain-grants s t same = let more = more-settled t in (more.0, more.1 ∙ ap (λ 
 grants-changed : (s : State) (seat at : ℕ) (event : Event) (c : Change) → IsChange (moved_to s at) seat event c → KeepsGrants s (settled c.state) event
 grants-changed s seat at _ _ (defines statement new accepts) = plain-grants s (defined (moved_to s at) new).state refl
 grants-changed s seat at _ _ (opens user o) = plain-grants s (opened (moved_to s at) seat user).state refl
-grants-changed s seat at _ _ (chooses session pool x found there room) = plain-grants s (chosen (moved_to s at) x pool).state refl
+grants-changed s seat at _ _ (chooses session pool x found other there room) = plain-grants s (chosen (moved_to s at) x pool).state refl
 grants-changed s seat at _ _ (submits session floor x found idle room) = plain-grants s (submitted (moved_to s at) x (session_pool s.definitions x) floor).state refl
 grants-changed s seat at _ _ (collects session x end found ended) = plain-grants s (collected (moved_to s at) x end).state refl
 grants-changed s seat at _ _ (finishes session x r found running runs) =
@@ -400,7 +404,7 @@ force-turn : (s : State) (seat at : ℕ) (event : Event) (c : Change) → IsChan
 force-turn s seat at _ _ (defines statement new accepts) most least =
     λ rises. let same = definitions-settled (defined (moved_to s at) new).state in omega (arith, rises, most, least, ap total same)
 force-turn s seat at _ _ (opens user o) most least = omega (arith, most, least)
-force-turn s seat at _ _ (chooses session pool x found there room) most least = omega (arith, most, least)
+force-turn s seat at _ _ (chooses session pool x found other there room) most least = omega (arith, most, least)
 force-turn s seat at _ _ (submits session floor x found idle room) most least = omega (arith, most, least)
 force-turn s seat at _ _ (collects session x end found ended) most least = omega (arith, most, least)
 force-turn s seat at _ _ (finishes session x r found running runs) most least = omega (arith, most, least)
@@ -478,3 +482,34 @@ legal-nil s = tt
 
 pub replay-nil : (s : State) → replay s [] ≡ s
 replay-nil s = refl
+
+-- an event that makes an entry has changed more than the clock
+loud-accepted : (s : State) (seat at : ℕ) (event : Event) (c : Change) → IsHealthy s → IsFormed event → IsChange (moved_to s at) seat event c
+    → IsSameButClock s (accepted seat event (settled c.state) (reply_of (settled c.state) c.answer)).state → ⊥
+loud-accepted s seat at event c h formed is same =
+    let m = moved_to s at in
+    let t = settled c.state in
+    let k = kept-changed m seat event c formed (kept-moved s at (from_healthy s h)) is in
+    let journal : t.journal ≡ s.journal = journal-settled c.state ∙ (rest-changed m seat event c is).journal in
+    let back : (let u : State = record t { journal = s.journal } in u) ≡ (let u : State = record s { clock = t.clock } in u) =
+    ap (λ (u : State). let v : State = record u { journal = s.journal } in v) same in
+    let whole : t ≡ (let u : State = record t { journal = s.journal } in u) = ap (λ l. let u : State = record t { journal = l } in u) journal in
+    loud-change m seat t.clock event c (moved-facts s at h) formed is k.in_phase (whole ∙ back)
+
+loud-turn : (s : State) (seat at : ℕ) (event : Event) (c : Change) (b : Bool) → c.changed ≡ b → change (moved_to s at) seat event ≡ Ok c → IsHealthy s → IsFormed event
+    → (let o : Outcome = cond b (accepted seat event (settled c.state) (reply_of (settled c.state) c.answer)) (quietly s (reply_of c.state c.answer)) in
+    o.entry ≡ true → IsSameButClock s o.state → ⊥)
+loud-turn s seat at event c true loud is h formed e = loud-accepted s seat at event c h formed (changed-is (moved_to s at) seat event c is loud)
+loud-turn s seat at event c false loud is h formed e = absurd (false≢true e)
+
+loud-outcome : (s : State) (seat at : ℕ) (event : Event) (r : Result Change Refusal) → change (moved_to s at) seat event ≡ r → IsHealthy s → IsFormed event
+    → (outcome s seat event r).entry ≡ true → IsSameButClock s (outcome s seat event r).state → ⊥
+loud-outcome s seat at event (Err refusal) is h formed e = absurd (false≢true e)
+loud-outcome s seat at event (Ok c) is h formed e = loud-turn s seat at event c c.changed refl is h formed e
+
+pub loud-step : (s : State) (seat at : ℕ) (event : Event) → IsHealthy s → IsFormed event → (step s seat at event).entry ≡ true → IsSameButClock s (step s seat at event).state → ⊥
+loud-step s seat at event h formed e = loud-outcome s seat at event (change (moved_to s at) seat event) refl h formed e
+
+-- one that makes none has changed nothing
+pub quiet-step : (s : State) (seat at : ℕ) (event : Event) → (step s seat at event).entry ≡ false → (step s seat at event).state ≡ s
+quiet-step s seat at event e = sym (same-outcome s seat event (change (moved_to s at) seat event) e)

@@ -15,4 +15,5 @@ pub mod Moving
 pub mod Ending
 pub mod Settling
 pub mod Changing
+pub mod Loud
 pub mod Laws

@@ -1,5 +1,5 @@
 -- What admission keeps.
-use Rattle.std.proofs.Common.{◌≡◌, ℕ, zero, suc, ◌+◌, ◌≤◌, Bool, true, false, ◌&&◌, ◌||◌, not, cond, eqb, leb, List, [], ◌∷◌, ◌++◌, length, Some, None, Option, refl, sym, ap, ◌∙◌, subst, arith, sum, count_by}
+use Rattle.std.proofs.Common.{◌≡◌, ℕ, zero, suc, ◌+◌, ◌≤◌, Bool, true, false, ◌&&◌, ◌||◌, not, cond, eqb, leb, List, [], ◌∷◌, ◌++◌, Some, None, Option, refl, sym, ap, ◌∙◌, subst, arith, sum, count_by}
 use Rattle.std.specs.List.{find, list_all}
 use Rattle.std.proofs.lemmas.List.Sums.{sum_by_push}
 use Rattle.std.proofs.lemmas.List.{length_push}
@@ -15,8 +15,8 @@ use Rattle.rm_rules.specs.State.{State, phase_of, with_phase, without_waiter, is
 use Rattle.rm_rules.specs.Accounting.{reserves, lent, free}
 use Rattle.rm_rules.specs.Admission.{ask_of, need, poolfit, judged_for, started, admitted, first_entitled, repeated}
 use Rattle.rm_rules.specs.Sound.{IsSound, has_pool}
-use Rattle.rm_rules.specs.Healthy.{IsHeld, IsCovered, AreInPhase, HasRoom, one_if}
-use Rattle.rm_rules.proofs.Taken.{sum_without, length_without, found_passes, found_counted, all_without, all_push, all_among, counted_among}
+use Rattle.rm_rules.specs.Healthy.{IsHeld, IsCovered, AreInPhase, AreNumbered, HasRoom, one_if}
+use Rattle.rm_rules.proofs.Taken.{sum_without, length_without, found_passes, found_counted, all_without, all_push, all_among, counted_among, found_single}
 use Rattle.rm_rules.proofs.Phases.{phase_of-with_other, phase_of-with_same, length-with, live-with, active-with, open_if_live}
 use Rattle.rm_rules.proofs.Bytes.{apart-zip, absent-zip, general-absent, user_pools-distinct, lent-push, lent-more}
 use Rattle.rm_rules.proofs.Known.{chosen-with}
@@ -28,6 +28,7 @@ pub record AreKept (entries statements : ℕ) (s : State) : Type 0 where
   pub sound : IsSound s.definitions
   pub covered : IsCovered s
   pub in_phase : AreInPhase s
+  pub numbered : AreNumbered s
   pub room : HasRoom entries statements s
 
 -- and before they settle
@@ -35,6 +36,7 @@ pub record AreHeld (entries statements : ℕ) (s : State) : Type 0 where
   pub sound : IsSound s.definitions
   pub held : IsHeld s
   pub in_phase : AreInPhase s
+  pub numbered : AreNumbered s
   pub room : HasRoom entries statements s
 
 -- what fits needs no more than is free
@@ -79,6 +81,10 @@ covered-admitted s w sound covered picked =
       in_force_least = covered.in_force_least;
       full_above_total = λ above. full-admitted s w sound covered f.1 (covered.full_above_total above);
     }
+
+one_if-most : (b : Bool) → one_if b ≤ 1
+one_if-most true = omega arith
+one_if-most false = omega arith
 
 one_or_none : (b : Bool) → 1 ≤ one_if b → b ≡ true
 one_or_none true h = refl
@@ -147,6 +153,14 @@ waiter_found s w among =
     (subst (λ (l : List Waiter). 1 ≤ count_by (λ x. eqb x.session w.session) l) (sym among.split)
     (counted_among (λ x. eqb x.session w.session) among.front among.rest w (eq-eqb w.session w.session refl)))
 
+-- which is that query, since a session has one
+pub waiter_same : (s : State) (w y : Waiter) → AreInPhase s → IsAmong w s.waiting → find (λ (x : Waiter). eqb x.session w.session) s.waiting ≡ Some y → w ≡ y
+waiter_same s w y h among found =
+    let one : count_by (λ (x : Waiter). eqb x.session w.session) s.waiting ≤ 1 = omega (arith, h.waits w.session, one_if-most (is_waiting (phase_of s.sessions w.session))) in
+    found_single (λ (x : Waiter). eqb x.session w.session) among.front among.rest w y (eq-eqb w.session w.session refl)
+    (subst (λ (l : List Waiter). count_by (λ x. eqb x.session w.session) l ≤ 1) among.split one)
+    (subst (λ (l : List Waiter). find (λ x. eqb x.session w.session) l ≡ Some y) among.split found)
+
 live-admitted : (s : State) (w : Waiter) → AreInPhase s → IsAmong w s.waiting → live_queries (with_phase w.session phase.Running s.sessions) ≡ live_queries s.sessions
 live-admitted s w h among =
     let waits = session-waits s w h among in
@@ -171,6 +185,33 @@ in_phase-admitted s w h picked =
       few = omega (arith, h.few, length-with w.session phase.Running s.sessions);
     }
 
+-- a query keeps its number when it begins to run
+taken-turn : (n : ℕ) (s : State) (w y : Waiter) → w ≡ y → find (λ (x : Waiter). eqb x.session w.session) s.waiting ≡ Some y
+    → count_by (λ (x : Waiter). eqb x.query n) (without_waiter w.session s.waiting) + count_by (λ (r : Runner). eqb r.query n) (s.running ++ started s w ∷ [])
+    ≡ count_by (λ (x : Waiter). eqb x.query n) s.waiting + count_by (λ (r : Runner). eqb r.query n) s.running
+taken-turn n s w y same found =
+    let one : cond (eqb w.query n) 1 0 ≡ cond (eqb y.query n) 1 0 = ap {B = ℕ} (λ (z : Waiter). cond (eqb z.query n) 1 0) same in
+    omega (
+      arith,
+      one,
+      sum_without (λ (x : Waiter). cond (eqb x.query n) 1 0) (λ x. eqb x.session w.session) y s.waiting found,
+      sum_by_push (λ (r : Runner). cond (eqb r.query n) 1 0) s.running (started s w),
+    )
+
+pub numbers-admitted : (n : ℕ) (s : State) (w : Waiter) → AreInPhase s → first_entitled s ≡ Some w
+    → count_by (λ (x : Waiter). eqb x.query n) (admitted s w).waiting + count_by (λ (r : Runner). eqb r.query n) (admitted s w).running
+    ≡ count_by (λ (x : Waiter). eqb x.query n) s.waiting + count_by (λ (r : Runner). eqb r.query n) s.running
+numbers-admitted n s w h picked =
+    let among = (first_entitled_fits s w picked).0 in
+    let found = waiter_found s w among in
+    taken-turn n s w found.0 (waiter_same s w found.0 h among found.1) found.1
+
+pub numbered-admitted : (s : State) (w : Waiter) → AreInPhase s → AreNumbered s → first_entitled s ≡ Some w → AreNumbered (admitted s w)
+numbered-admitted s w h numbered picked = record {
+  once = λ n. omega (arith, numbers-admitted n s w h picked, numbered.once n);
+  given = λ n above. omega (arith, numbers-admitted n s w h picked, numbered.given n above);
+}
+
 pub room-admitted : (k d : ℕ) (s : State) (w : Waiter) → AreInPhase s → HasRoom k d s → first_entitled s ≡ Some w → HasRoom k d (admitted s w)
 room-admitted k d s w h room picked =
     let live = live-admitted s w h (first_entitled_fits s w picked).0 in
@@ -186,6 +227,7 @@ kept-admitted k d s w picked h = record {
   sound = h.sound;
   covered = covered-admitted s w h.sound h.covered picked;
   in_phase = in_phase-admitted s w h.in_phase picked;
+  numbered = numbered-admitted s w h.in_phase h.numbered picked;
   room = room-admitted k d s w h.in_phase h.room picked;
 }
 

@@ -6,13 +6,13 @@ use Rattle.rm_rules.specs.declared.state.Runner.{Runner}
 use Rattle.rm_rules.specs.Definitions.{pool_row, total}
 use Rattle.rm_rules.specs.Budget.{is_too_large}
 use Rattle.rm_rules.specs.State.{State}
-use Rattle.rm_rules.specs.Admission.{first_entitled, admitted, admission, started}
+use Rattle.rm_rules.specs.Admission.{first_entitled, admitted, started}
 use Rattle.rm_rules.specs.Shuffle.{shuffled}
 use Rattle.rm_rules.specs.Settle.{ended_as, first_too_large, too_large_end, ended_too_large, without_too_large, settled}
-use Rattle.rm_rules.specs.Healthy.{IsHeld, AreInPhase, HasRoom}
+use Rattle.rm_rules.specs.Healthy.{IsHeld}
 use Rattle.rm_rules.proofs.Queue.{IsAmong, found_among}
 use Rattle.rm_rules.proofs.Moving.{AreKept, AreHeld, kept-admitted, repeated-keeps}
-use Rattle.rm_rules.proofs.Ending.{held-ended, in_phase-ended, room-ended}
+use Rattle.rm_rules.proofs.Ending.{held-ended, in_phase-ended, numbered-ended, room-ended}
 use Rattle.rm_rules.proofs.Shuffling.{covered-shuffled, force-shuffled}
 
 -- a query that is too large waits
@@ -26,6 +26,7 @@ held-too_large k d s w found h =
       sound = h.sound;
       held = held-ended (too_large_end s w) s w h.held;
       in_phase = in_phase-ended (too_large_end s w) s w h.in_phase among;
+      numbered = numbered-ended (too_large_end s w) s w h.numbered among;
       room = room-ended k d (too_large_end s w) s w h.in_phase h.room among;
     }
 
@@ -37,6 +38,7 @@ kept-shuffled k d s h = record {
   sound = h.sound;
   covered = covered-shuffled s h.sound h.held;
   in_phase = record { waits = h.in_phase.waits; runs = h.in_phase.runs; active = h.in_phase.active; few = h.in_phase.few };
+  numbered = record { once = h.numbered.once; given = h.numbered.given };
   room = record { kept = h.room.kept; defined = h.room.defined; sessions = h.room.sessions; queries = h.room.queries };
 }
 

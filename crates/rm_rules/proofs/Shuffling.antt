@@ -7,7 +7,7 @@ use Rattle.rm_base.specs.declared.rows.PoolRow.{PoolRow}
 use Rattle.rm_rules.specs.declared.state.Runner.{Runner}
 use Rattle.rm_rules.specs.Definitions.{total, user_pools}
 use Rattle.rm_rules.specs.State.{State}
-use Rattle.rm_rules.specs.Accounting.{used, debt, reserves, lent, free}
+use Rattle.rm_rules.specs.Accounting.{used, debt, lent, free}
 use Rattle.rm_rules.specs.Shuffle.{fallen_size, fallen, with_force, growth, grown_sizes, grown, shuffled}
 use Rattle.rm_rules.specs.Sound.{IsSound}
 use Rattle.rm_rules.specs.Healthy.{IsHeld, IsCovered}

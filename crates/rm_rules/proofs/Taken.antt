@@ -113,3 +113,21 @@ not_false false h = refl
 pub not_true : (a : Bool) → not a ≡ false → a ≡ true
 not_true true h = refl
 not_true false h = sym h
+
+-- where one alone passes, it is what is found
+single-turn : {A : Type 0} (test : A → Bool) (x y w : A) (front rest : List A) (b : Bool) → test x ≡ b → test w ≡ true
+    → count_by test (x ∷ front ++ w ∷ rest) ≤ 1 → cond b (Some x) (find test (front ++ w ∷ rest)) ≡ Some y
+    → (count_by test (front ++ w ∷ rest) ≤ 1 → find test (front ++ w ∷ rest) ≡ Some y → w ≡ y) → w ≡ y
+single-turn test x y w front rest true e passes few found more =
+    absurd (omega (arith, few, counted_among test front rest w passes, sum_by-cons (λ z. cond (test z) 1 0) x (front ++ w ∷ rest), ap {B = ℕ} (λ (c : Bool). cond c 1 0) e))
+single-turn test x y w front rest false e passes few found more =
+    more (omega (arith, few, sum_by-cons (λ z. cond (test z) 1 0) x (front ++ w ∷ rest))) found
+
+pub found_single : {A : Type 0} (test : A → Bool) (front rest : List A) (w y : A) → test w ≡ true → count_by test (front ++ w ∷ rest) ≤ 1
+    → find test (front ++ w ∷ rest) ≡ Some y → w ≡ y
+found_single test [] rest w y passes few found =
+    let first : cond (test w) (Some w) (find test rest) ≡ Some w = ap (λ b. cond b (Some w) (find test rest)) passes in
+    let both : Some w ≡ Some y = sym first ∙ found in
+    cc
+found_single test (x ∷ front) rest w y passes few found =
+    single-turn test x y w front rest (test x) refl passes few found (found_single test front rest w y passes)

@@ -37,6 +37,11 @@ pub record AreInPhase (s : State) : Type 0 where
   pub active : length s.running + length s.waiting ≡ active_queries s.sessions
   pub few : length s.sessions ≤ SESSIONS_MOST
 
+-- the numbers of queries: no two have one, and none has one that was not given yet
+pub record AreNumbered (s : State) : Type 0 where
+  pub once : (n : ℕ) → count_by (λ w. w.query == n) s.waiting + count_by (λ r. r.query == n) s.running ≤ 1
+  pub given : (n : ℕ) → s.last_query < n → count_by (λ w. w.query == n) s.waiting + count_by (λ r. r.query == n) s.running ≡ 0
+
 -- The journal has room for so many entries, and for those that live queries and open sessions may still make. Only
 -- accepted statements come on top, with so many more of them accepted, and the numbers last given are within its length.
 pub record HasRoom (entries statements : ℕ) (s : State) : Type 0 where
@@ -49,6 +54,7 @@ pub record IsHealthy (s : State) : Type 0 where
   pub sound : IsSound s.definitions
   pub covered : IsCovered s
   pub in_phase : AreInPhase s
+  pub numbered : AreNumbered s
   pub room : HasRoom 0 0 s
 
 -- whether an event with this answer makes an entry that counts against the room, or one of an accepted statement
@@ -63,4 +69,5 @@ pub record IsUnsettled (answer : Answer) (s : State) : Type 0 where
   pub sound : IsSound s.definitions
   pub held : IsHeld s
   pub in_phase : AreInPhase s
+  pub numbered : AreNumbered s
   pub room : HasRoom (counted_for answer) (defining_for answer) s

@@ -1,5 +1,5 @@
 -- What follows each change: queries that are too large now end, sizes are shuffled, and heads are admitted.
-use Rattle.std.specs.Prelude.{ℕ, Bool, List, Option, find, length}
+use Rattle.std.specs.Prelude.{Option, find, length}
 use Rattle.rm_base.specs.declared.reply.End.{End}
 use Rattle.rm_base.specs.declared.reply.End.TheVariants.{TooLarge}
 use Rattle.rm_rules.specs.declared.state.Phase.TheVariants as phase

@@ -2,7 +2,7 @@
 use Rattle.std.specs.Prelude.{◌≡◌, ℕ, Bool, true, false, ◌==◌, List, [], ◌∷◌, ◌++◌, Result, Ok, Err, max, filter, if◌then◌else◌}
 use Rattle.rm_base.specs.declared.entry.Entry.{Entry}
 use Rattle.rm_base.specs.declared.event.Event.{Event}
-use Rattle.rm_base.specs.declared.event.Event.TheVariants.{Define, Open, SetPool, Submit, Poll, Finish}
+use Rattle.rm_base.specs.declared.event.Event.TheVariants.{Define}
 use Rattle.rm_base.specs.Ranges.{is_statement_in_range}
 use Rattle.rm_base.specs.declared.refusal.Refusal.{Refusal}
 use Rattle.rm_base.specs.declared.reply.Reply.{Reply}
@@ -86,3 +86,7 @@ is_define _ = false
 abbrev pub FromFirst : List Entry → Type 0
 FromFirst [] = Unit {0}
 FromFirst (e ∷ es) = (is_define e.event ≡ true → e.seat ≡ 0) × FromFirst es
+
+-- two states that differ in the clock and the journal alone
+abbrev pub IsSameButClock : State → State → Type 0
+IsSameButClock s t = t ≡ record s { clock = t.clock; journal = t.journal }

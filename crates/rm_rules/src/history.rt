@@ -1,6 +1,6 @@
 //! The laws over all histories. Each is the contract of a function that does nothing.
 
-ghost use Rattle.std.specs.Prelude.{◌≡◌, ℕ, ◌≤◌, ◌++◌, List, Some};
+ghost use Rattle.std.specs.Prelude.{◌≡◌, ℕ, ◌≤◌, ◌++◌, true, false, List, Some};
 ghost use Rattle.rm_base.specs.declared.definitions.Definitions.{Definitions};
 ghost use Rattle.rm_base.specs.declared.entry.Entry.{Entry};
 ghost use Rattle.rm_base.specs.declared.event.Event.{Event};
@@ -10,7 +10,7 @@ ghost use Rattle.rm_rules.specs.Budget.{cap};
 ghost use Rattle.rm_rules.specs.State.{State, start};
 ghost use Rattle.rm_rules.specs.Accounting.{used};
 ghost use Rattle.rm_rules.specs.Admission.{first_entitled, admitted};
-ghost use Rattle.rm_rules.specs.Step.{step, made, replay, IsFormed, IsLegal};
+ghost use Rattle.rm_rules.specs.Step.{step, made, replay, IsFormed, IsLegal, IsSameButClock};
 ghost use Rattle.rm_rules.specs.Sound.{IsSound};
 ghost use Rattle.rm_rules.specs.Healthy.{IsHealthy};
 ghost use Rattle.rm_rules.specs.Conserved.{ConservedAfterEach, KeepsGrants, RaisesForce};
@@ -64,4 +64,17 @@ pub fn histories_go_on()
     ensures journal { (s : State) (entries : List Entry)
         → IsLegal s entries
         → (replay s entries).journal ≡ s.journal ++ entries }
+{}
+
+/// An event that makes an entry has changed more than the clock, and one that makes none has changed nothing.
+pub fn only_changes_make_entries()
+    ensures entry { (s : State) (seat at : ℕ) (event : Event)
+        → IsHealthy s
+        → IsFormed event
+        → (step s seat at event).entry ≡ true
+        → IsSameButClock s (step s seat at event).state
+        → ⊥ }
+    ensures none { (s : State) (seat at : ℕ) (event : Event)
+        → (step s seat at event).entry ≡ false
+        → (step s seat at event).state ≡ s }
 {}

@@ -111,7 +111,7 @@ cut_rises low at text spans stuck h (word _ _ n more _ longest cut) =
     (h, omega arith, cut_rises (at + n) (at + n) (drop n text) more stuck (omega arith) cut)
 cut_rises low at text spans stuck h (none _ c rest not_blank no_word) = tt
 
-below_or_not : (m n : ℕ) → (m < n) ⊎ (n ≤ m)
+pub below_or_not : (m n : ℕ) → (m < n) ⊎ (n ≤ m)
 below_or_not m zero = inr (omega arith)
 below_or_not zero (suc n) = inl (omega arith)
 below_or_not (suc m) (suc n) = elim (below_or_not m n) [ inl h ↦ inl (omega arith) | inr h ↦ inr (omega arith) ]

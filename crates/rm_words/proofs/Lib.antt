@@ -9,3 +9,4 @@ pub mod Printing
 pub mod Characters
 pub mod Written
 pub mod Undoubling
+pub mod CutsOf

@@ -2,4 +2,5 @@ pub mod Class
 pub mod Word
 pub mod Scan
 pub mod Cut
+pub mod CutOf
 pub mod Token

@@ -1,5 +1,6 @@
-ghost use Rattle.std.specs.Prelude.{All, IfErr, IfOk, None};
+ghost use Rattle.std.specs.Prelude.{◌≡◌, All, IfErr, IfOk, None};
 ghost use Rattle.rm_words.specs.Cut.{IsCut, IsWordOf, Stops};
+ghost use Rattle.rm_words.specs.CutOf.{cut_of};
 
 use crate::class::class_of;
 use crate::scan::longest;
@@ -10,6 +11,7 @@ use std::alloc::{AllocError, Global};
 pub fn cut(alloc: Global, text: &[u8]) -> Result<Cut, AllocError>
     ensures cut { IfOk result (λ c. IsCut 0 text.now c.words c.stuck) }
     ensures hold { IfOk result (λ c. All (IsWordOf text.now) c.words) }
+    ensures value { IfOk result (λ c. c ≡ cut_of text.now) }
 {
     let mut spans = Vec::new(alloc);
     let mut at = 0;

@@ -8,6 +8,7 @@ ghost use Rattle.rm_words.specs.declared.spans.Span.{Span};
 ghost use Rattle.rm_words.specs.Class.{class_of};
 ghost use Rattle.rm_words.specs.declared.token.Symbol.{Symbol};
 ghost use Rattle.rm_words.specs.Cut.{AreWords, IsCut, IsIn, IsStuckAt, IsWordOf, OnCharacters, Rise, cut_end, joined, spans_from, words_at};
+ghost use Rattle.rm_words.specs.CutOf.{cut_of};
 ghost use Rattle.rm_words.specs.Token.{Bare, IsWritten, Number, Quoted, Says, Sign, doubled, folded, quoted, symbol_bytes, token_of, undoubled};
 ghost use Rattle.rm_words.specs.Word.{is_bare, is_word};
 
@@ -16,6 +17,18 @@ pub fn one_cut()
     ensures { (text : List ℕ) (spans others : List Span) (stuck other : Option ℕ)
         → IsCut 0 text spans stuck → IsCut 0 text others other
         → (spans ≡ others) × (stuck ≡ other) }
+{}
+
+/// The function that cuts a text gives a cut of it.
+pub fn cut_of_is_cut()
+    ensures { (text : List ℕ) → IsCut 0 text (cut_of text).words (cut_of text).stuck }
+{}
+
+/// The function that cuts a text gives no other cut.
+pub fn cut_is_cut_of()
+    ensures { (text : List ℕ) (spans : List Span) (stuck : Option ℕ)
+        → IsCut 0 text spans stuck
+        → ((cut_of text).words ≡ spans) × ((cut_of text).stuck ≡ stuck) }
 {}
 
 /// Each span of a cut holds a word.

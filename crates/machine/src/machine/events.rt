@@ -3,7 +3,7 @@ ghost use Rattle.std.specs.Prelude.{◌≡◌, ◌<◌, ◌≤◌, ◌*◌, fals
 ghost use Rattle.rm_base.specs.declared.limits.TheConstants.{SESSIONS_MOST};
 
 use super::Machine;
-use crate::budget::if_too_large;
+use crate::asks::if_too_large;
 use crate::sessions::{
     is_idle, is_running, live_queries, runner_of, session_called, set_phase, take_runner,
 };
@@ -20,9 +20,8 @@ impl Machine {
     ghost use Rattle.rm_rules.specs.State.{session_of, session_called, session_pool, counted_entries};
     ghost use Rattle.rm_rules.specs.Definitions.{pool_row, user_called, usage};
     ghost use Rattle.rm_rules.specs.Sound.{IsSound};
-    ghost use Rattle.machine.specs.Budget.{if_too_large};
     ghost use Rattle.rm_rules.specs.Change.{is_journal_full, opening, submitted, submitting_to, submitting, finishing, change};
-    ghost use Rattle.machine.specs.Refusals.{user_refusal, size_refusal};
+    ghost use Rattle.machine.specs.Refusals.{if_too_large, user_refusal, size_refusal};
     ghost use Rattle.rm_rules.specs.Healthy.{IsHealthy};
     ghost use Rattle.rm_rules.specs.Step.{IsFormed};
     ghost use Rattle.machine.specs.Answers.{answer_of, change_to};

@@ -4,8 +4,9 @@ ghost use Rattle.rm_base.specs.declared.limits.TheConstants.{MEMORY_MOST};
 
 use super::Machine;
 use crate::accounts::{debts, own_of, unused_of, used, user_pools};
-use crate::budget::{ask, cap, threshold};
+use crate::asks::ask;
 use crate::queue::{has_earlier, is_blocked_behind, is_entitled};
+use budgets::{cap, threshold};
 use rm_base::name::Name;
 use rm_rules::state::{Judged, Waiter};
 

@@ -3,7 +3,7 @@ use Rattle.std.proofs.Common.{◌≡◌, ◌≤◌, ℕ, ◌/◌, Bool, true, fa
 use Rattle.std.specs.List.{list_all}
 use Rattle.std.proofs.lemmas.Bool.Decides.{nat_tests}
 use Rattle.std.proofs.lemmas.Bool.{false≢true}
-use Rattle.rm_base.specs.declared.limits.TheConstants.{MEMORY_MOST, SPAN_MOST, THRESHOLD_SECONDS_MOST}
+use Rattle.rm_base.specs.declared.limits.TheConstants.{MEMORY_MOST, CONCURRENCY_MOST, SPAN_MOST, THRESHOLD_SECONDS_MOST}
 use Rattle.rm_base.specs.declared.definitions.Definitions.{Definitions}
 use Rattle.rm_base.specs.declared.rows.PoolRow.{PoolRow}
 use Rattle.rm_base.specs.declared.name.Name.{Name}
@@ -30,32 +30,23 @@ found true r rows name other here rest = here
 found false r rows name other here rest = rest
 
 -- a set value of a pool in range
-is_pool_in_range-planned : (r : PoolRow) → is_pool_in_range r ≡ true → passes_if_set (is_between 1 1000) r.planned ≡ true
+is_pool_in_range-planned : (r : PoolRow) → is_pool_in_range r ≡ true → passes_if_set (is_between 1 CONCURRENCY_MOST) r.planned ≡ true
 is_pool_in_range-planned r h =
     let h1 = and-right (nat_le r.memory MEMORY_MOST) _ h in
     let h2 = and-right (passes_if_set (λ n. nat_le n MEMORY_MOST) r.max) _ h1 in
     let h3 = and-right (passes_if_set (λ n. nat_le n MEMORY_MOST) r.query_max) _ h2 in
-    let h4 = and-right (passes_if_set (is_between 1 1000) r.parallel) _ h3 in
+    let h4 = and-right (passes_if_set (is_between 1 CONCURRENCY_MOST) r.parallel) _ h3 in
     let h5 = and-right (is_priority r.priority) _ h4 in
     let h6 = and-right (nat_le r.threshold_s THRESHOLD_SECONDS_MOST) _ h5 in
     let h7 = and-right (passes_if_set (λ n. nat_le n SPAN_MOST) r.queue_ms) _ h6 in
     and-left _ _ h7
 
-planned_in_range : (o : Option ℕ) (n : ℕ) → passes_if_set (is_between 1 1000) o ≡ true → 1 ≤ n → 1 ≤ unwrap_or o n
+planned_in_range : (o : Option ℕ) (n : ℕ) → passes_if_set (is_between 1 CONCURRENCY_MOST) o ≡ true → 1 ≤ n → 1 ≤ unwrap_or o n
 planned_in_range None n h e = e
 planned_in_range (Some p) n h e = grind (arith, nat_tests)
 
-pub memory_in_range : (r : PoolRow) → is_pool_in_range r ≡ true → r.memory ≤ MEMORY_MOST
-memory_in_range r h = let e = and-left (nat_le r.memory MEMORY_MOST) _ h in grind (arith, nat_tests)
-
-set_in_range : (o : Option ℕ) (n : ℕ) → passes_if_set (λ n. nat_le n MEMORY_MOST) o ≡ true → n ≤ MEMORY_MOST → unwrap_or o n ≤ MEMORY_MOST
-set_in_range None n h e = e
-set_in_range (Some p) n h e = grind (arith, nat_tests)
-
-pub max_in_range : (r : PoolRow) (n : ℕ) → is_pool_in_range r ≡ true → n ≤ MEMORY_MOST → unwrap_or r.max n ≤ MEMORY_MOST
-max_in_range r n h e = set_in_range r.max n (and-left _ _ (and-right (nat_le r.memory MEMORY_MOST) _ h)) e
-
-pub find_in_range : (rows : List PoolRow) (name : Name) (other : PoolRow) → list_all is_pool_in_range rows ≡ true → is_pool_in_range other ≡ true → is_pool_in_range (unwrap_or (pool_called rows name) other) ≡ true
+-- the row of a name among rows in range, or else another in range
+find_in_range : (rows : List PoolRow) (name : Name) (other : PoolRow) → list_all is_pool_in_range rows ≡ true → is_pool_in_range other ≡ true → is_pool_in_range (unwrap_or (pool_called rows name) other) ≡ true
 find_in_range [] name other all here = here
 find_in_range (r ∷ rows) name other all here =
     found (same_name r.name name) r rows name other (and-left _ _ all) (find_in_range rows name other (and-right (is_pool_in_range r) _ all) here)

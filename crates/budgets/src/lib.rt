@@ -1,0 +1,79 @@
+//! What a pool's queries get by the definitions alone: thresholds, budgets, caps and asks, in bytes. It takes no memory.
+#![tactic(auto)]
+
+ghost use Rattle.std.specs.Prelude.{◌≡◌, ◌≤◌, ◌*◌, ◌↔◌, IsTrue, IsErr, IfOk, IfErr};
+ghost use Rattle.rm_base.specs.declared.limits.TheConstants.{MEMORY_MOST};
+ghost use Rattle.rm_rules.specs.Definitions.{pool_row, total, planned};
+ghost use Rattle.rm_rules.specs.Budget.{threshold, budget, cap, least_cap, ask, is_too_large, too_large};
+ghost use Rattle.rm_rules.specs.Sound.{IsSound};
+
+mod caps;
+mod definitions;
+mod shares;
+
+use crate::caps::{least_cap, row_cap};
+use crate::definitions::pool_row;
+pub use crate::definitions::total;
+use crate::shares::{row_budget, row_planned, row_threshold};
+use rm_base::definitions::Definitions;
+use rm_base::name::Name;
+use rm_base::refusal::Refusal;
+
+/// PLANNEDCONCURRENCY in force: so many queries share what the pool has.
+pub fn planned(definitions: &Definitions, pool: Name) -> u32
+    requires { IsSound definitions.now }
+    ensures value { result ≡ planned definitions.now (pool_row definitions.now pool) }
+    ensures least { 1 ≤ result }
+{
+    row_planned(definitions, &pool_row(definitions, pool))
+}
+
+/// The queueing threshold: while the pool's queries hold more, the others wait.
+pub fn threshold(definitions: &Definitions, pool: Name) -> u64
+    requires { IsSound definitions.now }
+    ensures value { result ≡ threshold definitions.now (pool_row definitions.now pool) }
+    ensures most { result ≤ MEMORY_MOST }
+{
+    row_threshold(definitions, &pool_row(definitions, pool))
+}
+
+/// The query budget: what a query asks for, where its floor and the caps leave it that.
+pub fn budget(definitions: &Definitions, pool: Name) -> u64
+    requires { IsSound definitions.now }
+    ensures value { result ≡ budget definitions.now (pool_row definitions.now pool) }
+    ensures most { result ≤ MEMORY_MOST }
+{
+    row_budget(definitions, &pool_row(definitions, pool))
+}
+
+/// What the pool's queries can hold in all.
+pub fn cap(definitions: &Definitions, pool: Name) -> u64
+    requires { IsSound definitions.now }
+    ensures value { result ≡ cap definitions.now (pool_row definitions.now pool) }
+    ensures most { result ≤ 2 * MEMORY_MOST }
+{
+    row_cap(definitions, &pool_row(definitions, pool))
+}
+
+/// What a query of this user with this floor asks for in the pool. A floor above the least cap is refused.
+pub fn ask(definitions: &Definitions, pool: Name, user: Name, floor: u64) -> Result<u64, Refusal>
+    requires { IsSound definitions.now }
+    ensures ok { IfOk result (λ bytes.
+        bytes ≡ ask definitions.now (pool_row definitions.now pool) user floor) }
+    ensures most { IfOk result (λ bytes. bytes ≤ 2 * MEMORY_MOST) }
+    ensures least { (least_cap definitions.now (pool_row definitions.now pool) user).bytes ≤ 2 * MEMORY_MOST }
+    ensures err { IfErr result (λ refusal.
+        refusal ≡ too_large definitions.now (pool_row definitions.now pool) user floor) }
+    ensures large { IsErr result ↔ IsTrue (is_too_large definitions.now (pool_row definitions.now pool) user floor) }
+{
+    let row = pool_row(definitions, pool);
+    let least = least_cap(definitions, &row, user);
+    if least.bytes < floor {
+        return Err(Refusal::TooLarge(least.kind, floor, least.bytes));
+    }
+    let wanted = row_budget(definitions, &row).max(floor);
+    Ok(wanted.min(least.bytes))
+}
+
+#[cfg(test)]
+mod tests;
