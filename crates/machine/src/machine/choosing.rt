@@ -4,6 +4,7 @@ ghost use Rattle.std.specs.Prelude.{◌≡◌, Ok, Err, IfOk, IfErr, OnErr};
 use super::Machine;
 use crate::sessions::{choose, has_chosen, live_queries};
 use crate::told::{Done, Told};
+use crate::users::pool_called;
 use rm_base::name::Name;
 use rm_base::refusal::Refusal;
 use rm_base::reply::Reply;
@@ -19,8 +20,7 @@ impl Machine {
     fn has_pool(&self, pool: Name) -> bool
         ensures { result ≡ has_pool self.now.definitions pool }
     {
-        let mut rows = self.definitions.pools.rows().iter().copied();
-        rows.find(|r| r.name.same(pool)).is_some()
+        pool_called(self.definitions.pools.rows(), pool).is_some()
     }
 
     /// This session chooses its pool. To choose what is chosen changes nothing.
