@@ -60,55 +60,6 @@ fn run(alloc: Global, words: &str, script: &[u8]) -> Result<(u8, MemorySink), Fa
     Ok((status, out))
 }
 
-#[test]
-fn runs_scripts(rt: HostRuntime) -> Result<(), Fail> {
-    let cases: [(&str, &[u8], u8, &[u8]); 12] = [
-        (USUAL, b"", 0, b""),
-        (USUAL, b"\n# nothing\n\r\n", 0, b""),
-        ("script --memory 100M", b"open a dbadmin\n", 1, b""),
-        (
-            USUAL,
-            b"open a dbadmin\nfrob\n",
-            2,
-            b"a opened 1\nbad line 2\n",
-        ),
-        (
-            USUAL,
-            b"open a dbadmin\nopen b dbadmin",
-            0,
-            b"a opened 1\nb opened 2\n",
-        ),
-        (
-            USUAL,
-            b"open a dbadmin\nopen A dbadmin\n",
-            2,
-            b"a opened 1\nbad line 2\n",
-        ),
-        (USUAL, b"open a ann\n", 2, b"bad line 1\n"),
-        (USUAL, b"ask a 1\n", 2, b"bad line 1\n"),
-        (USUAL, b"done a\n", 2, b"bad line 1\n"),
-        (USUAL, b"# \xff\n", 2, b"bad line 1\n"),
-        (
-            USUAL,
-            b"open a dbadmin\nopen b dbadmin\nask a 99614720\nask b 99614721\nask a 1\n",
-            0,
-            b"a opened 1\nb opened 2\na admitted 99614720 general 99614720 0\nb refused 19 pool 99614721 99614720\na refused 21\n",
-        ),
-        (
-            USUAL,
-            b"open a dbadmin\ndone a\nask a 1\ndone a\ndone a\n",
-            0,
-            b"a opened 1\na refused 22\na admitted 23658496 general 23658496 0\na released 23658496\na refused 22\n",
-        ),
-    ];
-    for (words, script, status, text) in cases {
-        let (got, out) = run(rt.alloc(), words, script)?;
-        assert_eq!(rt; got, status, "the status of {script:?}");
-        assert_eq!(rt; out.contents(), text, "the text of {script:?}");
-    }
-    Ok(())
-}
-
 /// Runs scripts with the usual words, each with the status and the text that it must give.
 fn run_cases(rt: &impl Abort, alloc: Global, cases: &[(&str, u8, &str)]) -> Result<(), Fail> {
     for (script, status, text) in cases {
@@ -116,6 +67,50 @@ fn run_cases(rt: &impl Abort, alloc: Global, cases: &[(&str, u8, &str)]) -> Resu
         assert_eq!(rt; got, *status, "the status of {script:?}");
         assert_eq!(rt; out.contents(), text.as_bytes(), "the text of {script:?}");
     }
+    Ok(())
+}
+
+#[test]
+fn runs_scripts(rt: HostRuntime) -> Result<(), Fail> {
+    let cases = [
+        ("", 0, ""),
+        ("\n# nothing\n\r\n", 0, ""),
+        ("open a dbadmin\nfrob\n", 2, "a opened 1\nbad line 2\n"),
+        (
+            "open a dbadmin\nopen b dbadmin",
+            0,
+            "a opened 1\nb opened 2\n",
+        ),
+        (
+            "open a dbadmin\nopen A dbadmin\n",
+            2,
+            "a opened 1\nbad line 2\n",
+        ),
+        ("open a ann\n", 2, "bad line 1\n"),
+        ("ask a 1\n", 2, "bad line 1\n"),
+        ("done a\n", 2, "bad line 1\n"),
+        (
+            "open a dbadmin\nopen b dbadmin\nask a 99614720\nask b 99614721\nask a 1\n",
+            0,
+            "a opened 1\nb opened 2\na admitted 99614720 general 99614720 0\nb refused 19 pool 99614721 99614720\na refused 21\n",
+        ),
+        (
+            "open a dbadmin\ndone a\nask a 1\ndone a\ndone a\n",
+            0,
+            "a opened 1\na refused 22\na admitted 23658496 general 23658496 0\na released 23658496\na refused 22\n",
+        ),
+    ];
+    run_cases(&rt, rt.alloc(), &cases)
+}
+
+#[test]
+fn refuses_words_and_bytes(rt: HostRuntime) -> Result<(), Fail> {
+    let (status, out) = run(rt.alloc(), "script --memory 100M", b"open a dbadmin\n")?;
+    assert_eq!(rt; status, 1);
+    assert_eq!(rt; out.contents(), b"".as_slice());
+    let (status, out) = run(rt.alloc(), USUAL, b"# \xff\n")?;
+    assert_eq!(rt; status, 2);
+    assert_eq!(rt; out.contents(), b"bad line 1\n".as_slice());
     Ok(())
 }
 

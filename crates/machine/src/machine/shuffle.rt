@@ -3,8 +3,8 @@ ghost use Rattle.std.specs.Prelude.{◌≡◌};
 
 use super::Machine;
 use crate::accounts::user_pools;
-use budgets::total;
 use crate::sizes::{fall, grow};
+use budgets::total;
 
 impl Machine {
     ghost use Rattle.rm_rules.specs.Definitions.{total};
