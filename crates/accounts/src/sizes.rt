@@ -1,0 +1,68 @@
+//! The shuffle of the pools' actual sizes.
+ghost use Rattle.std.specs.Prelude.{◌≡◌, ◌<◌, ◌≤◌, ◌-◌, ◌^◌, length, map};
+ghost use Rattle.std.specs.List.{zip};
+ghost use Rattle.rm_rules.specs.Accounting.{debt};
+ghost use Rattle.rm_rules.specs.Shuffle.{fallen_size, growth, grown_sizes};
+ghost use Rattle.accounts.specs.Accounts.{runners};
+ghost use Rattle.accounts.specs.Bytes.{held};
+
+use crate::bytes::{debt, used};
+use crate::holdings::Grant;
+use rm_base::rows::PoolRow;
+
+/// What a pool above its MEMORYSIZE falls to: to it, or to the own bytes that it uses where these are more.
+fn fallen_size(grants: &[Grant], row: &PoolRow, size: u64) -> u64
+    requires { held grants.now < 2 ^ 64 }
+    ensures { result ≡ fallen_size (runners grants.now) (row.now, size) }
+{
+    if row.memory < size {
+        row.memory.max(used(grants, row.name).min(size))
+    } else {
+        size
+    }
+}
+
+/// Pools above their MEMORYSIZE fall.
+pub fn fall(grants: &[Grant], rows: &[PoolRow], actual: &mut [u64])
+    requires granted { held grants.now < 2 ^ 64 }
+    requires sizes { length actual.old ≡ length rows.now }
+    ensures { actual.new ≡ map (fallen_size (runners grants.now)) (zip rows.now actual.old) }
+{
+    for (i, row) in rows.iter().enumerate() {
+        actual[i] = fallen_size(grants, row, actual[i]);
+    }
+}
+
+/// By how much a pool below its MEMORYSIZE grows: within what it has borrowed and what is free.
+fn growth(grants: &[Grant], row: &PoolRow, size: u64, spare: u64) -> u64
+    requires granted { held grants.now < 2 ^ 63 }
+    requires spare { spare < 2 ^ 63 }
+    ensures { result ≡ growth (runners grants.now) spare (row.now, size) }
+{
+    let wanted = row.memory.saturating_sub(size);
+    wanted.min(debt(grants, row.name, size) + spare)
+}
+
+/// What is still free after a pool grew by so much: it paid back its debt first.
+fn spare_after(grants: &[Grant], row: &PoolRow, size: u64, more: u64, spare: u64) -> u64
+    requires granted { held grants.now < 2 ^ 63 }
+    ensures { result ≡ spare - (more - debt (runners grants.now) (row.now, size)) }
+{
+    spare.saturating_sub(more.saturating_sub(debt(grants, row.name, size)))
+}
+
+/// Pools below their MEMORYSIZE grow, one after the other, while so much is free.
+pub fn grow(grants: &[Grant], rows: &[PoolRow], actual: &mut [u64], free: u64)
+    requires granted { held grants.now < 2 ^ 63 }
+    requires sizes { length actual.old ≡ length rows.now }
+    requires free { free < 2 ^ 63 }
+    ensures { actual.new ≡ grown_sizes (runners grants.now) free (zip rows.now actual.old) }
+{
+    let mut spare = free;
+    for (i, row) in rows.iter().enumerate() {
+        let size = actual[i];
+        let more = growth(grants, row, size, spare);
+        spare = spare_after(grants, row, size, more, spare);
+        actual[i] = size + more;
+    }
+}
