@@ -20,6 +20,7 @@ fn sum_in(grants: &[Grant], pool: Name) -> u64
 }
 
 /// What these queries of the pool hold.
+#[tactic(auto, using(crate::proofs::Sums::used_runners, crate::proofs::Sums::sum_held_in))]
 pub fn used(grants: &[Grant], pool: Name) -> u64
     requires { held grants.now < 2 ^ 64 }
     ensures value { result ≡ used pool (runners grants.now) }

@@ -1,5 +1,5 @@
 //! The shuffle of the pools' actual sizes.
-ghost use Rattle.std.specs.Prelude.{◌≡◌, ◌<◌, ◌≤◌, ◌-◌, ◌^◌, length, map};
+ghost use Rattle.std.specs.Prelude.{◌≡◌, ◌<◌, ◌≤◌, ◌+◌, ◌-◌, ◌^◌, length, map};
 ghost use Rattle.std.specs.List.{zip};
 ghost use Rattle.rm_rules.specs.Accounting.{debt};
 ghost use Rattle.rm_rules.specs.Shuffle.{fallen_size, growth, grown_sizes};
@@ -37,7 +37,8 @@ pub fn fall(grants: &[Grant], rows: &[PoolRow], actual: &mut [u64])
 fn growth(grants: &[Grant], row: &PoolRow, size: u64, spare: u64) -> u64
     requires granted { held grants.now < 2 ^ 63 }
     requires spare { spare < 2 ^ 63 }
-    ensures { result ≡ growth (runners grants.now) spare (row.now, size) }
+    ensures value { result ≡ growth (runners grants.now) spare (row.now, size) }
+    ensures fits { size + result < 2 ^ 64 }
 {
     let wanted = row.memory.saturating_sub(size);
     wanted.min(debt(grants, row.name, size) + spare)
