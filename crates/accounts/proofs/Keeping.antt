@@ -96,7 +96,7 @@ pub kept_first : (d : Definitions) → IsSound d → IsKept (first_accounts d)
 kept_first d sound =
     let rows = user_pools d.pools in
     let parts = behind-general d.pools (some-first d.pools sound.general_first) in
-    let lends : lent (state_of (first_accounts d)) ≡ 0 = lent_of (first_accounts d) ∙ held-first rows in
+    let lends : lent (state_of (first_accounts d)) ≡ 0 = omega (arith, lent_of (first_accounts d), held-first rows) in
     let within : sum (map (λ r. r.memory) rows) + lent (state_of (first_accounts d)) ≤ total d =
     omega (arith, sizes-first rows, parts.0, lends, sound.reserved_most) in
     record {
@@ -144,7 +144,7 @@ lent-taken : (a : AccountsState) (query : ℕ) (pool : Name) (bytes : ℕ) → a
 lent-taken a query pool bytes distinct =
     let es = zip (map default_pool_row a.names) a.actual in
     let x : Grant = record { query = query; pool = pool; grant = bytes } in
-    let others = not_false _ (and_left (not (list_any (same_name general) a.names)) (are_distinct a.names) distinct) in
+    let others : list_any (same_name general) a.names ≡ false = not_false _ (and_left (not (list_any (same_name general) a.names)) (are_distinct a.names) distinct) in
     let apart = apart-named a.names a.actual (and_right (not (list_any (same_name general) a.names)) (are_distinct a.names) distinct) in
     let pushed = ap (λ (rs : List Runner). used general rs + sum_by (debt rs) es) (map-append as_runner a.grants (x ∷ [])) in
     omega (arith, pushed, lent-push (runners a.grants) (as_runner x) es apart (absent-named general a.names a.actual others))
@@ -165,7 +165,7 @@ kept_taken a query pool bytes k absent there fits room =
       granted = omega (arith, within, lent_of (taken a query pool bytes), held-within a.names a.actual (a.grants ++ x ∷ []) k.sizes k.names_distinct known);
       in_force_most = k.in_force_most;
       few_pools = k.few_pools;
-      few_queries = omega (arith, room);
+      few_queries = omega (arith, room, length_push a.grants x);
     }
 
 -- without a query

@@ -1,6 +1,7 @@
 -- Bytes read off the lists of names, sizes and grants.
 use Rattle.std.specs.Prelude.{ℕ, ◌+◌, ◌-◌, List, Option, Some, None, find, sum_by, min, if◌then◌else◌}
 use Rattle.std.specs.List.{zip}
+use Rattle.rm_base.specs.declared.entry.Account.{Account}
 use Rattle.rm_base.specs.declared.name.Name.{Name}
 use Rattle.rm_base.specs.Name.{same_name, general}
 use Rattle.rm_rules.specs.declared.state.Runner.{Runner}
@@ -35,3 +36,9 @@ pool_at names actual pool = find (λ e. same_name e.0 pool) (zip names actual)
 -- GENERAL's use
 abbrev pub lent_by : List Name → List ℕ → List Runner → ℕ
 lent_by names actual running = used general running + sum_by (debt_at running) (zip names actual)
+
+-- the account of a query behind these, in whose pool so many own bytes are used
+abbrev pub account_with : ℕ → List Runner → Grant → Account
+account_with own before g =
+    let own_bytes = if same_name g.pool general then g.grant else min g.grant (own - used g.pool before) in
+    record { pool = g.pool; own = own_bytes; borrowed = g.grant - own_bytes }

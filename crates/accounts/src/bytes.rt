@@ -3,9 +3,10 @@ ghost use Rattle.std.specs.Prelude.{◌≡◌, ◌<◌, ◌≤◌, ◌+◌, ◌-
 ghost use Rattle.std.specs.List.{zip};
 ghost use Rattle.rm_rules.specs.Accounting.{used};
 ghost use Rattle.accounts.specs.Accounts.{runners};
-ghost use Rattle.accounts.specs.Bytes.{held, held_in, debt_at, pool_at, lent_by};
+ghost use Rattle.accounts.specs.Bytes.{held, held_in, own_at, unused_at, debt_at, worth_of, pool_at, lent_by, account_with};
 
 use crate::holdings::Grant;
+use rm_base::entry::Account;
 use rm_base::name::Name;
 
 /// What these queries of the pool hold, as a sum that fits.
@@ -64,7 +65,7 @@ pub fn lent(names: &[Name], actual: &[u64], grants: &[Grant]) -> u64
 }
 
 /// The pool and its actual size; GENERAL has none.
-pub fn pool_at(names: &[Name], actual: &[u64], pool: Name) -> Option<(Name, u64)>
+fn pool_at(names: &[Name], actual: &[u64], pool: Name) -> Option<(Name, u64)>
     ensures { result ≡ pool_at names.now actual.now pool }
 {
     names
@@ -72,4 +73,54 @@ pub fn pool_at(names: &[Name], actual: &[u64], pool: Name) -> Option<(Name, u64)
         .copied()
         .zip(actual.iter().copied())
         .find(|(name, _)| name.same(pool))
+}
+
+/// The pool's actual size; GENERAL has none.
+pub fn size_of(names: &[Name], actual: &[u64], pool: Name) -> u64
+    ensures { result ≡ worth_of (λ e. e.1) (pool_at names.now actual.now pool) }
+{
+    match pool_at(names, actual, pool) {
+        Some((_, size)) => size,
+        None => 0,
+    }
+}
+
+/// How much of its own bytes the pool uses; GENERAL has none.
+pub fn own_of(names: &[Name], actual: &[u64], grants: &[Grant], pool: Name) -> u64
+    requires { held grants.now < 2 ^ 64 }
+    ensures { result ≡ worth_of (own_at (runners grants.now)) (pool_at names.now actual.now pool) }
+{
+    match pool_at(names, actual, pool) {
+        Some((name, size)) => used(grants, name).min(size),
+        None => 0,
+    }
+}
+
+/// How much of its own bytes the pool does not use; GENERAL has none.
+pub fn unused_of(names: &[Name], actual: &[u64], grants: &[Grant], pool: Name) -> u64
+    requires { held grants.now < 2 ^ 64 }
+    ensures { result ≡ worth_of (unused_at (runners grants.now)) (pool_at names.now actual.now pool) }
+{
+    match pool_at(names, actual, pool) {
+        Some((name, size)) => size - used(grants, name).min(size),
+        None => 0,
+    }
+}
+
+/// The account of a query behind these, in whose pool so many own bytes are used: they are handed to the pool's queries
+/// in their order. GENERAL lends to itself.
+pub fn account_with(own: u64, before: &[Grant], g: Grant) -> Account
+    requires { held before.now < 2 ^ 64 }
+    ensures { result ≡ account_with own (runners before.now) g }
+{
+    let own = if g.pool.same(Name::general()) {
+        g.grant
+    } else {
+        g.grant.min(own.saturating_sub(used(before, g.pool)))
+    };
+    Account {
+        pool: g.pool,
+        own,
+        borrowed: g.grant - own,
+    }
 }

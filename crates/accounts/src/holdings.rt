@@ -6,7 +6,7 @@ ghost use Rattle.rm_rules.specs.Definitions.{user_pools};
 ghost use Rattle.rm_rules.specs.Sound.{IsSound};
 ghost use Rattle.accounts.specs.Accounts.{names_in, first_accounts, is_of};
 
-use crate::bytes::{lent, pool_at, used};
+use crate::bytes::{account_with, lent, own_of, size_of, unused_of, used};
 use crate::sizes::{fall, grow};
 use budgets::total;
 use rm_base::definitions::Definitions;
@@ -148,12 +148,17 @@ impl Accounts {
 
     /// The pool's actual size; GENERAL has none.
     pub fn actual(&self, pool: Name) -> u64
-        ensures value { result ≡ actual_of (state_of self.now) pool }
+        ensures { result ≡ actual_of (state_of self.now) pool }
     {
-        match pool_at(&self.names, &self.actual, pool) {
-            Some((_, size)) => size,
-            None => 0,
-        }
+        size_of(&self.names, &self.actual, pool)
+    }
+
+    /// What a query of so many bytes would need of GENERAL's, beyond what its pool has unused.
+    pub fn need(&self, pool: Name, bytes: u64) -> u64
+        ensures value { result ≡ need (state_of self.now) pool bytes }
+        ensures most { result ≤ bytes }
+    {
+        bytes - bytes.min(unused_of(&self.names, &self.actual, &self.grants, pool))
     }
 
     /// How many queries run in the pool.
@@ -176,5 +181,70 @@ impl Accounts {
         ensures { result ≡ slice_index (queries self.now) index }
     {
         self.grants[index as usize].query
+    }
+
+    /// What the query holds of its pool's own bytes, which go to the pool's queries in their order, and what it has
+    /// borrowed. A query that does not run holds nothing.
+    pub fn account_of(&self, query: u64) -> Account
+        ensures { result ≡ account_of self.now query }
+    {
+        match place_of(&self.grants, query) {
+            Some(place) => {
+                let g = self.grants[place];
+                let own = own_of(&self.names, &self.actual, &self.grants, g.pool);
+                account_with(own, &self.grants[..place], g)
+            }
+            None => Account {
+                pool: Name::general(),
+                own: 0,
+                borrowed: 0,
+            },
+        }
+    }
+
+    /// A query begins to run, behind the others.
+    pub fn take(&mut self, query: u64, pool: Name, grant: u64)
+        requires room { length self.old.grants < SESSIONS_MOST }
+        requires absent { has_query self.old query ≡ false }
+        requires known { has_name self.old.names pool ≡ true }
+        requires fits { need (state_of self.old) pool grant ≤ free (state_of self.old) }
+        ensures { self.new ≡ taken self.old query pool grant }
+    {
+        self.grants.push_reserved(Grant { query, pool, grant });
+    }
+
+    /// A query ends, and what it held is handed back. One that does not run held nothing.
+    pub fn give_back(&mut self, query: u64) -> u64
+        ensures state { self.new ≡ given_back self.old query }
+        ensures grant { result ≡ grant_of self.old query }
+    {
+        match place_of(&self.grants, query) {
+            Some(place) => self.grants.remove(place).grant,
+            None => 0,
+        }
+    }
+
+    /// One pool more, behind the others. It has no bytes of its own until the sizes are shuffled.
+    pub fn add_pool(&mut self, pool: Name)
+        requires absent { has_name self.old.names pool ≡ false }
+        requires room { length self.old.names + 1 < POOLS_MOST }
+        ensures { self.new ≡ with_pool self.old pool }
+    {
+        self.names.push_reserved(pool);
+        self.actual.push_reserved(0);
+    }
+
+    /// Actual sizes follow the declared ones as far as bytes in use let them, and the memory in force the total.
+    pub fn shuffle(&mut self, definitions: &Definitions)
+        requires sound { IsSound definitions.now }
+        requires same_pools { names_in definitions.now ≡ self.old.names }
+        ensures { self.new ≡ shuffled_under definitions.now self.old }
+    {
+        let rows = user_pools(definitions.pools.rows());
+        fall(&self.grants, rows, &mut self.actual);
+        let reserved: u64 = self.actual.iter().sum();
+        let kept = reserved + lent(&self.names, &self.actual, &self.grants);
+        self.in_force = total(definitions).max(kept);
+        grow(&self.grants, rows, &mut self.actual, self.in_force - kept);
     }
 }
