@@ -26,10 +26,10 @@ use Rattle.rm_rules.proofs.Taken.{and_left, and_right, and_both, or_left_false, 
 use Rattle.rm_rules.proofs.Shuffling.{fallen-sum, fallen-debts, fallen-length, grown-sums, grown-length}
 use Rattle.accounts.specs.declared.holdings.Grant.{Grant}
 use Rattle.accounts.specs.Accounts.{AccountsState, as_runner, runners, names_in, state_of, state_under, has_name, is_of, first_accounts, taken, given_back, with_pool, shuffled_under}
-use Rattle.accounts.specs.Bytes.{held, held_in, debt_at, lent_by}
+use Rattle.accounts.specs.Bytes.{held, held_in, debt_at, lent_by, kept_bytes, fallen_sizes}
 use Rattle.accounts.specs.Kept.{IsKept}
 use Rattle.accounts.proofs.Sums.{used_runners, sum_without_le, length_without_le}
-use Rattle.accounts.proofs.Named.{names-default, lent-named, lent_of}
+use Rattle.accounts.proofs.Named.{names-default, debts-named, lent-named, lent_of}
 
 -- what pools use is within their sizes and what they have borrowed
 uses-within : (running : List Runner) (names : List Name) (ns : List ℕ) → length ns ≡ length names
@@ -315,3 +315,14 @@ kept_shuffled d a sound named k =
       few_pools = k.few_pools;
       few_queries = k.few_queries;
     }
+
+-- what is reserved and lent falls with the sizes
+pub kept-fallen : (running : List Runner) (names : List Name) (rows : List PoolRow) (ns : List ℕ) → map (λ r. r.name) rows ≡ names
+    → kept_bytes names (fallen_sizes running rows ns) running ≤ kept_bytes names ns running
+kept-fallen running names rows ns named =
+    let fell = fallen_sizes running rows ns in
+    let before : sum_by (debt running) (zip rows ns) ≡ sum_by (debt_at running) (zip names ns) =
+    debts-named running rows ns ∙ ap (λ (xs : List Name). sum_by (debt_at running) (zip xs ns)) named in
+    let after : sum_by (debt running) (zip rows fell) ≡ sum_by (debt_at running) (zip names fell) =
+    debts-named running rows fell ∙ ap (λ (xs : List Name). sum_by (debt_at running) (zip xs fell)) named in
+    omega (arith, before, after, fallen-sum running rows ns, fallen-debts running rows ns)

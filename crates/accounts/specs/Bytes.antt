@@ -1,11 +1,13 @@
 -- Bytes read off the lists of names, sizes and grants.
-use Rattle.std.specs.Prelude.{ℕ, ◌+◌, ◌-◌, List, Option, Some, None, find, sum_by, min, if◌then◌else◌}
+use Rattle.std.specs.Prelude.{ℕ, ◌+◌, ◌-◌, List, Option, Some, None, find, map, sum, sum_by, min, if◌then◌else◌}
 use Rattle.std.specs.List.{zip}
 use Rattle.rm_base.specs.declared.entry.Account.{Account}
 use Rattle.rm_base.specs.declared.name.Name.{Name}
 use Rattle.rm_base.specs.Name.{same_name, general}
 use Rattle.rm_rules.specs.declared.state.Runner.{Runner}
+use Rattle.rm_base.specs.declared.rows.PoolRow.{PoolRow}
 use Rattle.rm_rules.specs.Accounting.{used}
+use Rattle.rm_rules.specs.Shuffle.{fallen_size}
 use Rattle.accounts.specs.declared.holdings.Grant.{Grant}
 
 -- what all these queries hold
@@ -36,6 +38,14 @@ pool_at names actual pool = find (λ e. same_name e.0 pool) (zip names actual)
 -- GENERAL's use
 abbrev pub lent_by : List Name → List ℕ → List Runner → ℕ
 lent_by names actual running = used general running + sum_by (debt_at running) (zip names actual)
+
+-- what is reserved and lent
+abbrev pub kept_bytes : List Name → List ℕ → List Runner → ℕ
+kept_bytes names actual running = sum actual + lent_by names actual running
+
+-- the sizes of these pools after those above their MEMORYSIZE fell
+abbrev pub fallen_sizes : List Runner → List PoolRow → List ℕ → List ℕ
+fallen_sizes running rows actual = map (fallen_size running) (zip rows actual)
 
 -- the account of a query behind these, in whose pool so many own bytes are used
 abbrev pub account_with : ℕ → List Runner → Grant → Account

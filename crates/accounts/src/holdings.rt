@@ -7,7 +7,7 @@ ghost use Rattle.rm_rules.specs.Sound.{IsSound};
 ghost use Rattle.accounts.specs.Accounts.{names_in, first_accounts, is_of};
 
 use crate::bytes::{account_with, lent, own_of, size_of, unused_of, used};
-use crate::sizes::{fall, grow};
+use crate::sizes::{reserved, shuffle};
 use budgets::total;
 use rm_base::definitions::Definitions;
 use rm_base::entry::Account;
@@ -142,8 +142,7 @@ impl Accounts {
         ensures value { result ≡ free (state_of self.now) }
         ensures most { result ≤ self.now.in_force }
     {
-        let reserved: u64 = self.actual.iter().sum();
-        self.in_force - reserved - self.lent()
+        self.in_force - reserved(&self.actual) - self.lent()
     }
 
     /// The pool's actual size; GENERAL has none.
@@ -241,10 +240,7 @@ impl Accounts {
         ensures { self.new ≡ shuffled_under definitions.now self.old }
     {
         let rows = user_pools(definitions.pools.rows());
-        fall(&self.grants, rows, &mut self.actual);
-        let reserved: u64 = self.actual.iter().sum();
-        let kept = reserved + lent(&self.names, &self.actual, &self.grants);
-        self.in_force = total(definitions).max(kept);
-        grow(&self.grants, rows, &mut self.actual, self.in_force - kept);
+        let total = total(definitions);
+        self.in_force = shuffle(&self.grants, &self.names, rows, &mut self.actual, total);
     }
 }

@@ -1,13 +1,14 @@
 //! The shuffle of the pools' actual sizes.
-ghost use Rattle.std.specs.Prelude.{◌≡◌, ◌<◌, ◌≤◌, ◌+◌, ◌-◌, ◌^◌, length, map};
+ghost use Rattle.std.specs.Prelude.{◌≡◌, ◌<◌, ◌≤◌, ◌+◌, ◌-◌, ◌^◌, length, map, sum, max};
 ghost use Rattle.std.specs.List.{zip};
 ghost use Rattle.rm_rules.specs.Accounting.{debt};
 ghost use Rattle.rm_rules.specs.Shuffle.{fallen_size, growth, grown_sizes};
 ghost use Rattle.accounts.specs.Accounts.{runners};
-ghost use Rattle.accounts.specs.Bytes.{held};
+ghost use Rattle.accounts.specs.Bytes.{held, kept_bytes, fallen_sizes};
 
-use crate::bytes::{debt, used};
+use crate::bytes::{debt, lent, used};
 use crate::holdings::Grant;
+use rm_base::name::Name;
 use rm_base::rows::PoolRow;
 
 /// What a pool above its MEMORYSIZE falls to: to it, or to the own bytes that it uses where these are more.
@@ -23,10 +24,10 @@ fn fallen_size(grants: &[Grant], row: &PoolRow, size: u64) -> u64
 }
 
 /// Pools above their MEMORYSIZE fall.
-pub fn fall(grants: &[Grant], rows: &[PoolRow], actual: &mut [u64])
+fn fall(grants: &[Grant], rows: &[PoolRow], actual: &mut [u64])
     requires granted { held grants.now < 2 ^ 64 }
     requires sizes { length actual.old ≡ length rows.now }
-    ensures { actual.new ≡ map (fallen_size (runners grants.now)) (zip rows.now actual.old) }
+    ensures { actual.new ≡ fallen_sizes (runners grants.now) rows.now actual.old }
 {
     for (i, row) in rows.iter().enumerate() {
         actual[i] = fallen_size(grants, row, actual[i]);
@@ -53,7 +54,7 @@ fn spare_after(grants: &[Grant], row: &PoolRow, size: u64, more: u64, spare: u64
 }
 
 /// Pools below their MEMORYSIZE grow, one after the other, while so much is free.
-pub fn grow(grants: &[Grant], rows: &[PoolRow], actual: &mut [u64], free: u64)
+fn grow(grants: &[Grant], rows: &[PoolRow], actual: &mut [u64], free: u64)
     requires granted { held grants.now < 2 ^ 63 }
     requires sizes { length actual.old ≡ length rows.now }
     requires free { free < 2 ^ 63 }
@@ -66,4 +67,32 @@ pub fn grow(grants: &[Grant], rows: &[PoolRow], actual: &mut [u64], free: u64)
         spare = spare_after(grants, row, size, more, spare);
         actual[i] = size + more;
     }
+}
+
+/// What the pools reserve.
+pub fn reserved(actual: &[u64]) -> u64
+    requires { sum actual.now < 2 ^ 64 }
+    ensures { result ≡ sum actual.now }
+{
+    actual.iter().sum()
+}
+
+/// Actual sizes follow the declared ones as far as bytes in use let them. The memory in force comes out: the total, or
+/// what is still reserved or lent, where that is more.
+pub fn shuffle(grants: &[Grant], names: &[Name], rows: &[PoolRow], actual: &mut [u64], total: u64) -> u64
+    requires granted { held grants.now < 2 ^ 63 }
+    requires sizes { length actual.old ≡ length rows.now }
+    requires named { map (λ r. r.name) rows.now ≡ names.now }
+    requires fits { kept_bytes names.now actual.old (runners grants.now) < 2 ^ 63 }
+    requires total { total < 2 ^ 63 }
+    ensures force { let fell = fallen_sizes (runners grants.now) rows.now actual.old in
+        result ≡ max total (kept_bytes names.now fell (runners grants.now)) }
+    ensures sizes { let fell = fallen_sizes (runners grants.now) rows.now actual.old in
+        actual.new ≡ grown_sizes (runners grants.now) (result - kept_bytes names.now fell (runners grants.now)) (zip rows.now fell) }
+{
+    fall(grants, rows, actual);
+    let kept = reserved(actual) + lent(names, actual, grants);
+    let force = total.max(kept);
+    grow(grants, rows, actual, force - kept);
+    force
 }
