@@ -317,9 +317,9 @@ kept_shuffled d a sound named k =
     }
 
 -- what is reserved and lent falls with the sizes
-pub kept-fallen : (running : List Runner) (names : List Name) (rows : List PoolRow) (ns : List ℕ) → map (λ r. r.name) rows ≡ names
+pub kept_fallen : (running : List Runner) (names : List Name) (rows : List PoolRow) (ns : List ℕ) → map (λ r. r.name) rows ≡ names
     → kept_bytes names (fallen_sizes running rows ns) running ≤ kept_bytes names ns running
-kept-fallen running names rows ns named =
+kept_fallen running names rows ns named =
     let fell = fallen_sizes running rows ns in
     let before : sum_by (debt running) (zip rows ns) ≡ sum_by (debt_at running) (zip names ns) =
     debts-named running rows ns ∙ ap (λ (xs : List Name). sum_by (debt_at running) (zip xs ns)) named in

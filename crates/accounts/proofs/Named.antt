@@ -18,7 +18,7 @@ pub names-default : (names : List Name) → map (λ r. r.name) (map default_pool
 names-default [] = refl
 names-default (n ∷ ns) = ap (λ xs. n ∷ xs) (names-default ns)
 
-debts-named : (running : List Runner) (rows : List PoolRow) (ns : List ℕ)
+pub debts-named : (running : List Runner) (rows : List PoolRow) (ns : List ℕ)
     → sum_by (debt running) (zip rows ns) ≡ sum_by (debt_at running) (zip (map (λ r. r.name) rows) ns)
 debts-named running [] ns = refl
 debts-named running (r ∷ rs) [] = refl

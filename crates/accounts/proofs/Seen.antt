@@ -105,7 +105,7 @@ pub grant-absent : (a : AccountsState) (query : ℕ) → let o : Option ℕ = No
 grant-absent a query absent = sym (ap (λ (o : Option Grant). elim o [ Some x ↦ x.grant | None ↦ 0 ]) (find-absent (is_of query) a.grants absent))
 
 -- its account
-in_account : AccountsState → ℕ → Option Grant → Account
+abbrev in_account : AccountsState → ℕ → Option Grant → Account
 in_account a query o = elim o [ Some g ↦ account_behind (state_of a) (runners (before a query)) (as_runner g) | None ↦ no_account ]
 
 pub account-found : (query i : ℕ) (g : Grant) (a : AccountsState) (own : ℕ) (gs : List Grant) → IsAt query i g a → own ≡ own_of (state_of a) g.pool → gs ≡ take i a.grants
@@ -154,3 +154,21 @@ shuffled-seen d rows m a force ns same named is_rows h =
     let by_rows : IsShuffled d (user_pools d.pools) m force ns = subst (λ (rs : List PoolRow). IsShuffled d rs m force ns) is_rows h in
     (λ i. record (seen m) { in_force = shuffled-force d m force ns named_seen by_rows i; actual = shuffled-sizes d m force ns named_seen by_rows i })
     ∙ ap (λ (x : AccountsState). shuffled_under d x) same
+
+pub kept-seen : (names : List Name) (ns : List ℕ) (gs : List Grant) (m : Inside) → AreOf names ns gs m → IsKept (seen m) → kept_bytes names ns (runners gs) < 2 ^ 63
+kept-seen names ns gs m of k =
+    let same : sum ns ≡ sum m.actual.items = ap (λ (xs : List ℕ). sum xs) of.actual in
+    omega (arith, same, lent-seen names ns gs m (seen m) of (λ i. seen m), k.within, k.in_force_most)
+
+-- the call's lists are those of the fields
+pub shuffled-call : (d : Definitions) (rows : List PoolRow) (m : Inside) (names : List Name) (ns : List ℕ) (gs : List Grant) (total_is force : ℕ) (sizes : List ℕ) → AreOf names ns gs m → total_is ≡ total d
+    → force ≡ max total_is (kept_bytes names (fallen_sizes (runners gs) rows ns) (runners gs))
+    → sizes ≡ grown_sizes (runners gs) (force - kept_bytes names (fallen_sizes (runners gs) rows ns) (runners gs)) (zip rows (fallen_sizes (runners gs) rows ns))
+    → IsShuffled d rows m force sizes
+shuffled-call d rows m names ns gs total_is force sizes of is_total is_force is_sizes =
+    let kept : kept_bytes names (fallen_sizes (runners gs) rows ns) (runners gs) ≡ kept_bytes m.names.items (fallen_sizes (runners m.grants.items) rows m.actual.items) (runners m.grants.items) =
+    λ i. kept_bytes (of.names i) (fallen_sizes (runners (of.grants i)) rows (of.actual i)) (runners (of.grants i)) in
+    record {
+      force_is = is_force ∙ (λ i. max (is_total i) (kept i));
+      sizes = is_sizes ∙ (λ i. grown_sizes (runners (of.grants i)) (force - kept i) (zip rows (fallen_sizes (runners (of.grants i)) rows (of.actual i))));
+    }

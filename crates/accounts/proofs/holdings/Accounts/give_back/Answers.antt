@@ -1,4 +1,4 @@
-use Rattle.std.proofs.Common.{◌≡◌, ◌∙◌, sym, ap, subst, arith, position, Option, Some, None, List, ℕ}
+use Rattle.std.proofs.Common.{◌≡◌, ◌∙◌, sym, ap, subst, arith, position, get_or, Option, Some, None, List, ℕ}
 use Rattle.rm_rules.specs.State.{without}
 use Rattle.accounts.specs.declared.holdings.Grant.{Grant}
 use Rattle.accounts.specs.Accounts.{AccountsState, is_of}
@@ -27,7 +27,15 @@ returns-in-Some-clause-state c =
     given-seen c.self.inside c.remove.new.self.items c.args.self.now c.args.query c.self.view_is items
 
 pub returns-in-Some-clause-grant : goal.returns-in-Some-clause-grant
-returns-in-Some-clause-grant c = let h = c.remove.ensures.value in ?
+returns-in-Some-clause-grant c =
+    let all = c.deref.ensures.value ∙ ap (λ (x : AccountsState). x.grants) c.self.view_is in
+    let items = ap (λ (x : AccountsState). x.grants) c.self.view_is in
+    grant-found c.args.query c.in-Some.place c.remove.result c.args.self.now (
+      record {
+        place = ap (λ (xs : List Grant). position (is_of c.args.query) xs) (sym all) ∙ sym c.in-Some.ensures.value;
+        there = c.remove.ensures.value ∙ ap (λ (xs : List Grant). get_or xs c.in-Some.place c.remove.result) items;
+      }
+    )
 
 pub returns-in-None-clause-state : goal.returns-in-None-clause-state
 returns-in-None-clause-state c =
