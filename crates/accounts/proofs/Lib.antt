@@ -3,3 +3,4 @@ pub mod Named
 pub mod Keeping
 pub mod Places
 pub mod Seen
+pub mod Standing
