@@ -1,6 +1,8 @@
 -- A state for which accounts stand.
-use Rattle.std.proofs.Common.{◌≡◌, ◌≤◌, ℕ, ◌+◌, ◌-◌, ◌^◌, max, min, Bool, true, false, not, cond, nat_eq, Option, Some, None, List, [], ◌∷◌, ◌++◌, refl, ap, sym, subst, ◌∙◌, arith, map, sum, sum_by, count_by, find, take_while}
-use Rattle.std.specs.List.{zip}
+use Rattle.std.proofs.Common.{◌≡◌, ◌≤◌, ℕ, ◌+◌, ◌-◌, ◌^◌, max, min, suc, Bool, true, false, not, cond, nat_eq, nat_lt, if◌then◌else◌, Option, Some, None, List, [], ◌∷◌, ◌++◌, refl, ap, sym, subst, ◌∙◌, arith, map, sum, sum_by, count_by, find, take_while}
+use Rattle.std.specs.List.{zip, prefix_len}
+use Rattle.std.proofs.lemmas.Bool.{false≢true}
+use Rattle.std.proofs.lemmas.Bool.Decides.{nat_tests}
 use Rattle.std.proofs.lemmas.List.{map-append}
 use Rattle.std.proofs.lemmas.List.Sums.{sum_by-cons}
 use Rattle.rm_base.specs.declared.definitions.Definitions.{Definitions}
@@ -11,13 +13,14 @@ use Rattle.rm_base.specs.Name.{same_name, general}
 use Rattle.rm_rules.specs.declared.state.Runner.{Runner}
 use Rattle.rm_rules.specs.Definitions.{total, user_pools}
 use Rattle.rm_rules.specs.State.{State}
-use Rattle.rm_rules.specs.Accounting.{used, own_of, unused_of, lent, free, account_behind, accounts_behind, accounts}
+use Rattle.rm_rules.specs.Accounting.{used, debt, own_of, unused_of, lent, free, account_behind, accounts_behind, accounts}
 use Rattle.rm_rules.specs.Admission.{need}
 use Rattle.rm_rules.specs.Conserved.{actual_of}
 use Rattle.rm_rules.specs.Shuffle.{fallen, fallen_size, with_force, grown, growth, grown_sizes, shuffled}
 use Rattle.rm_rules.proofs.Bytes.{used-push}
+use Rattle.rm_rules.proofs.Taken.{counted_among}
 use Rattle.accounts.specs.declared.holdings.Grant.{Grant}
-use Rattle.accounts.specs.Accounts.{AccountsState, StandsFor, as_grant, as_runner, runners, names_in, state_of, state_under, is_of, account_of, shuffled_under}
+use Rattle.accounts.specs.Accounts.{AccountsState, StandsFor, as_grant, as_runner, runners, names_in, state_of, state_under, is_of, no_account, account_of, shuffled_under}
 use Rattle.accounts.specs.Bytes.{held_in, own_at, unused_at, debt_at, worth_of, pool_at, lent_by}
 use Rattle.accounts.proofs.Sums.{sum_by-map, used_runners}
 use Rattle.accounts.proofs.Named.{names-default, lent-named, lent_of, own-named, unused-named, actual-named, own_of_names, unused_of_names, actual_of_names}
@@ -92,3 +95,82 @@ pub accounts-stand : (s : State) (a : AccountsState) → StandsFor s a → accou
 accounts-stand s a h =
     accounts-same s (state_of a) [] [] s.running (λ p. own-stands s a p h) (λ p. refl)
     ∙ ap (λ (gs : List Grant). accounts_behind (state_of a) [] (runners gs)) h.grants
+
+-- a query that runs once is found, behind those before it
+pub record IsFirst (q : ℕ) (front : List Grant) (g : Grant) (gs : List Grant) : Type 0 where
+  pub found : find (is_of q) gs ≡ Some g
+  pub behind : take_while (λ x. not (is_of q x)) gs ≡ front
+
+first-turn : (q : ℕ) (x : Grant) (front : List Grant) (g : Grant) (gs : List Grant) (b : Bool) → is_of q x ≡ b → b ≡ false → IsFirst q front g gs → IsFirst q (x ∷ front) g (x ∷ gs)
+first-turn q x front g gs true e other rest = absurd (false≢true (sym other))
+first-turn q x front g gs false e other rest = record {
+  found = ap (λ c. cond c (Some x) (find (is_of q) gs)) e ∙ rest.found;
+  behind = rw e (let one : 1 + prefix_len (λ y. not (is_of q y)) gs ≡ suc (prefix_len (λ y. not (is_of q y)) gs) = omega arith in rw one (ap (λ ys. x ∷ ys) rest.behind));
+}
+
+once-turn : (test : Grant → Bool) (x : Grant) (gs : List Grant) (b : Bool) → test x ≡ b → 1 ≤ count_by test gs → count_by test (x ∷ gs) ≤ 1 → (b ≡ false) × (count_by test gs ≤ 1)
+once-turn test x gs true e some most =
+    absurd (omega (arith, some, most, sum_by-cons (λ z. cond (test z) 1 0) x gs, ap {B = ℕ} (λ (c : Bool). cond c 1 0) e))
+once-turn test x gs false e some most = (refl, omega (arith, most, sum_by-cons (λ z. cond (test z) 1 0) x gs))
+
+first-among : (q : ℕ) (front : List Grant) (g : Grant) (rest : List Grant) → is_of q g ≡ true → count_by (is_of q) (front ++ g ∷ rest) ≤ 1 → IsFirst q front g (front ++ g ∷ rest)
+first-among q [] g rest here most = record {
+  found = ap (λ c. cond c (Some g) (find (is_of q) rest)) here;
+  behind = rw here refl;
+}
+first-among q (x ∷ front) g rest here most =
+    let turn = once-turn (is_of q) x (front ++ g ∷ rest) (is_of q x) refl (counted_among (is_of q) front rest g here) most in
+    first-turn q x front g (front ++ g ∷ rest) (is_of q x) refl turn.0 (first-among q front g rest here turn.1)
+
+is-itself : (n : ℕ) → nat_eq n n ≡ true
+is-itself n = grind (arith, nat_tests)
+
+abbrev account_in : AccountsState → List Grant → Option Grant → Account
+account_in a front o = elim o [ Some g ↦ account_behind (state_of a) (runners front) (as_runner g) | None ↦ no_account ]
+
+pub account-stands : (s : State) (a : AccountsState) (before rest : List Runner) (r : Runner) → StandsFor s a → ((query : ℕ) → count_by (λ x. nat_eq x.query query) s.running ≤ 1)
+    → s.running ≡ before ++ r ∷ rest → account_of a r.query ≡ account_behind s before r
+account-stands s a before rest r h once split =
+    let front = map as_grant before in
+    let all : a.grants ≡ front ++ as_grant r ∷ map as_grant rest = sym h.grants ∙ ap (λ (rs : List Runner). map as_grant rs) split ∙ map-append as_grant before (r ∷ rest) in
+    let counted : count_by (λ x. nat_eq x.query r.query) s.running ≡ count_by (is_of r.query) (front ++ as_grant r ∷ map as_grant rest) =
+    sym (sum_by-map (λ g. cond (is_of r.query g) 1 0) as_grant s.running) ∙ ap (λ (gs : List Grant). count_by (is_of r.query) gs) (h.grants ∙ all) in
+    let at = first-among r.query front (as_grant r) (map as_grant rest) (is-itself r.query) (omega (arith, counted, once r.query)) in
+    let found = ap (λ (gs : List Grant). find (is_of r.query) gs) all ∙ at.found in
+    let behind = ap (λ (gs : List Grant). take_while (λ x. not (is_of r.query x)) gs) all ∙ at.behind in
+    (λ i. account_in a (behind i) (found i))
+    ∙ sym (account-same s (state_of a) before (runners front) r (own-stands s a r.pool h) (used-same before front r.pool refl))
+
+-- the shuffle depends on the running queries by the use of pools alone
+grown-same : (running other : List Runner) (spare : ℕ) (es : List (PoolRow × ℕ)) → ((p : Name) → used p running ≡ used p other) → grown_sizes running spare es ≡ grown_sizes other spare es
+grown-same running other spare [] same = refl
+grown-same running other spare (e ∷ es) same =
+    let owes : debt running e ≡ debt other e = λ i. same e.0.name i - min (same e.0.name i) e.1 in
+    let more : growth running spare e ≡ growth other spare e = λ i. min (e.0.memory - e.1) (owes i + spare) in
+    (λ i. (e.1 + more i) ∷ grown_sizes running (spare - (more i - owes i)) es)
+    ∙ ap (λ ys. (e.1 + growth other spare e) ∷ ys) (grown-same running other (spare - (growth other spare e - debt other e)) es same)
+
+grants-runners : (gs : List Grant) → map as_grant (runners gs) ≡ gs
+grants-runners [] = refl
+grants-runners (g ∷ gs) = ap (λ xs. g ∷ xs) (grants-runners gs)
+
+pub shuffled-stands : (s : State) (a : AccountsState) → StandsFor s a → StandsFor (shuffled s) (shuffled_under s.definitions a)
+shuffled-stands s a h =
+    let rows = user_pools s.definitions.pools in
+    let other = runners a.grants in
+    let t = state_under s.definitions a in
+    let same : (p : Name) → used p s.running ≡ used p other = λ p. used-same s.running a.grants p h.grants in
+    let fell : (fallen s).actual ≡ (fallen t).actual =
+    λ i. map (λ (e : PoolRow × ℕ). if nat_lt e.0.memory e.1 then max e.0.memory (min (same e.0.name i) e.1) else e.1) (zip rows (h.actual i)) in
+    let b : AccountsState = record a { actual = (fallen t).actual } in
+    let lends : lent (fallen s) ≡ lent (fallen t) =
+    lent-stands (fallen s) b (record { in_force = h.in_force; actual = fell; names = h.names; grants = h.grants })
+    ∙ sym (lent-stands (fallen t) b (record { in_force = refl; actual = refl; names = h.names; grants = grants-runners a.grants })) in
+    let force : (with_force (fallen s)).in_force ≡ (with_force (fallen t)).in_force = λ i. max (total s.definitions) (sum (fell i) + lends i) in
+    let spare : free (with_force (fallen s)) ≡ free (with_force (fallen t)) = λ i. (force i - sum (fell i)) - lends i in
+    record {
+      in_force = force;
+      actual = (λ i. grown_sizes s.running (spare i) (zip rows (fell i))) ∙ grown-same s.running other (free (with_force (fallen t))) (zip rows (fallen t).actual) same;
+      names = h.names;
+      grants = h.grants;
+    }
