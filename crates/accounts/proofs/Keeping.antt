@@ -233,7 +233,7 @@ distinct-push (n ∷ ns) pool distinct absent =
     let here = not_false _ (and_left (not (list_any (same_name n) ns)) (are_distinct ns) distinct) in
     let now = absent-push n pool ns here (or_left_false (same_name pool n) _ absent) in
     and_both (not (list_any (same_name n) (ns ++ pool ∷ []))) _ (ap not now)
-      (distinct-push ns pool (and_right (not (list_any (same_name n) ns)) (are_distinct ns) distinct) (or_right_false (same_name pool n) _ absent))
+    (distinct-push ns pool (and_right (not (list_any (same_name n) ns)) (are_distinct ns) distinct) (or_right_false (same_name pool n) _ absent))
 
 any-push : {A : Type 0} (test : A → Bool) (xs : List A) (y : A) → list_any test xs ≡ true → list_any test (xs ++ y ∷ []) ≡ true
 any-push test xs y h = list_any-append test xs (y ∷ []) ∙ ap (λ b. b || list_any test (y ∷ [])) h
@@ -242,8 +242,8 @@ known-push : (names : List Name) (pool : Name) (gs : List Grant) → list_all (�
 known-push names pool [] known = refl
 known-push names pool (g ∷ gs) known =
     and_both (has_name (names ++ pool ∷ []) g.pool) _
-      (any-push (same_name g.pool) (general ∷ names) pool (and_left (has_name names g.pool) _ known))
-      (known-push names pool gs (and_right (has_name names g.pool) _ known))
+    (any-push (same_name g.pool) (general ∷ names) pool (and_left (has_name names g.pool) _ known))
+    (known-push names pool gs (and_right (has_name names g.pool) _ known))
 
 sum-push : (ns : List ℕ) → sum (ns ++ 0 ∷ []) ≡ sum ns
 sum-push ns = omega (arith, sum_by_push (λ (x : ℕ). x) ns 0)

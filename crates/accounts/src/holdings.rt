@@ -169,7 +169,8 @@ impl Accounts {
 
     /// How many queries run.
     pub fn count(&self) -> u32
-        ensures { result ≡ length self.now.grants }
+        ensures value { result ≡ length self.now.grants }
+        ensures most { result ≤ SESSIONS_MOST }
     {
         self.grants.len() as u32
     }

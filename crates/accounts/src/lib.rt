@@ -7,3 +7,6 @@ pub mod laws;
 mod sizes;
 
 pub use crate::holdings::{Accounts, Grant};
+
+#[cfg(test)]
+mod tests;

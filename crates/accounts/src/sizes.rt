@@ -79,7 +79,13 @@ pub fn reserved(actual: &[u64]) -> u64
 
 /// Actual sizes follow the declared ones as far as bytes in use let them. The memory in force comes out: the total, or
 /// what is still reserved or lent, where that is more.
-pub fn shuffle(grants: &[Grant], names: &[Name], rows: &[PoolRow], actual: &mut [u64], total: u64) -> u64
+pub fn shuffle(
+    grants: &[Grant],
+    names: &[Name],
+    rows: &[PoolRow],
+    actual: &mut [u64],
+    total: u64,
+) -> u64
     requires granted { held grants.now < 2 ^ 63 }
     requires sizes { length actual.old ≡ length rows.now }
     requires named { map (λ r. r.name) rows.now ≡ names.now }

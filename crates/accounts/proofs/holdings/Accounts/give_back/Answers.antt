@@ -31,10 +31,10 @@ returns-in-Some-clause-grant c =
     let all = c.deref.ensures.value ∙ ap (λ (x : AccountsState). x.grants) c.self.view_is in
     let items = ap (λ (x : AccountsState). x.grants) c.self.view_is in
     grant-found c.args.query c.in-Some.place c.remove.result c.args.self.now (
-      record {
-        place = ap (λ (xs : List Grant). position (is_of c.args.query) xs) (sym all) ∙ sym c.in-Some.ensures.value;
-        there = c.remove.ensures.value ∙ ap (λ (xs : List Grant). get_or xs c.in-Some.place c.remove.result) items;
-      }
+    record {
+      place = ap (λ (xs : List Grant). position (is_of c.args.query) xs) (sym all) ∙ sym c.in-Some.ensures.value;
+      there = c.remove.ensures.value ∙ ap (λ (xs : List Grant). get_or xs c.in-Some.place c.remove.result) items;
+    }
     )
 
 pub returns-in-None-clause-state : goal.returns-in-None-clause-state
