@@ -12,15 +12,15 @@ use Rattle.rm_base.specs.declared.name.Name.{Name}
 use Rattle.rm_base.specs.Name.{same_name, general}
 use Rattle.rm_rules.specs.declared.state.Runner.{Runner}
 use Rattle.rm_rules.specs.Definitions.{total, user_pools}
-use Rattle.rm_rules.specs.State.{State}
+use Rattle.rm_rules.specs.State.{State, without, without_runner}
 use Rattle.rm_rules.specs.Accounting.{used, debt, own_of, unused_of, lent, free, account_behind, accounts_behind, accounts}
 use Rattle.rm_rules.specs.Admission.{need}
 use Rattle.rm_rules.specs.Conserved.{actual_of}
 use Rattle.rm_rules.specs.Shuffle.{fallen, fallen_size, with_force, grown, growth, grown_sizes, shuffled}
 use Rattle.rm_rules.proofs.Bytes.{used-push}
-use Rattle.rm_rules.proofs.Taken.{counted_among}
+use Rattle.rm_rules.proofs.Taken.{counted_among, sum_without}
 use Rattle.accounts.specs.declared.holdings.Grant.{Grant}
-use Rattle.accounts.specs.Accounts.{AccountsState, StandsFor, as_grant, as_runner, runners, names_in, state_of, state_under, is_of, no_account, account_of, shuffled_under}
+use Rattle.accounts.specs.Accounts.{AccountsState, StandsFor, as_grant, as_runner, runners, names_in, state_of, state_under, is_of, no_account, account_of, taken, given_back, shuffled_under}
 use Rattle.accounts.specs.Bytes.{held_in, own_at, unused_at, debt_at, worth_of, pool_at, lent_by}
 use Rattle.accounts.proofs.Sums.{sum_by-map, used_runners}
 use Rattle.accounts.proofs.Named.{names-default, lent-named, lent_of, own-named, unused-named, actual-named, own_of_names, unused_of_names, actual_of_names}
@@ -174,3 +174,52 @@ shuffled-stands s a h =
       names = h.names;
       grants = h.grants;
     }
+
+-- a query that begins or ends
+pub taken-stands : (s : State) (a : AccountsState) (r : Runner) → StandsFor s a → StandsFor (record s { running = s.running ++ r ∷ [] }) (taken a r.query r.pool r.grant)
+taken-stands s a r h = record {
+  in_force = h.in_force;
+  actual = h.actual;
+  names = h.names;
+  grants = map-append as_grant s.running (r ∷ []) ∙ ap (λ (gs : List Grant). gs ++ as_grant r ∷ []) h.grants;
+}
+
+apart-turn : (q : ℕ) (x : Runner) (xs : List Runner) (b : Bool) → nat_eq x.query q ≡ b → 1 ≤ count_by (λ y. nat_eq y.query q) xs → count_by (λ y. nat_eq y.query q) (x ∷ xs) ≤ 1 → b ≡ false
+apart-turn q x xs true e some most =
+    absurd (omega (arith, some, most, sum_by-cons (λ (y : Runner). cond (nat_eq y.query q) 1 0) x xs, ap {B = ℕ} (λ (c : Bool). cond c 1 0) e))
+apart-turn q x xs false e some most = refl
+
+some-found : (session q : ℕ) (xs : List Runner) (r : Runner) → r.query ≡ q → find (λ y. nat_eq y.session session) xs ≡ Some r → 1 ≤ count_by (λ y. nat_eq y.query q) xs
+some-found session q xs r is found =
+    let own : cond (nat_eq r.query q) 1 0 ≡ 1 = ap {B = ℕ} (λ (c : Bool). cond c 1 0) (ap (λ n. nat_eq n q) is ∙ is-itself q) in
+    omega (arith, own, sum_without (λ (y : Runner). cond (nat_eq y.query q) 1 0) (λ y. nat_eq y.session session) r xs found)
+
+without-turn : (session : ℕ) (x r : Runner) (xs : List Runner) (b : Bool) → nat_eq x.session session ≡ b → cond b (Some x) (find (λ y. nat_eq y.session session) xs) ≡ Some r
+    → count_by (λ y. nat_eq y.query r.query) (x ∷ xs) ≤ 1
+    → (find (λ y. nat_eq y.session session) xs ≡ Some r → map as_grant (without (λ y. nat_eq y.session session) xs) ≡ without (is_of r.query) (map as_grant xs))
+    → map as_grant (cond b xs (x ∷ without (λ y. nat_eq y.session session) xs)) ≡ cond (nat_eq x.query r.query) (map as_grant xs) (as_grant x ∷ without (is_of r.query) (map as_grant xs))
+without-turn session x r xs true e found most rest =
+    let same : x ≡ r = cc in
+    let here : nat_eq x.query r.query ≡ true = ap (λ (y : Runner). nat_eq y.query r.query) same ∙ is-itself r.query in
+    rw here refl
+without-turn session x r xs false e found most rest =
+    let other : nat_eq x.query r.query ≡ false = apart-turn r.query x xs (nat_eq x.query r.query) refl (some-found session r.query xs r refl found) most in
+    rw other (ap (λ gs. as_grant x ∷ gs) (rest found))
+
+less-turn : (q : ℕ) (x : Runner) (xs : List Runner) → count_by (λ y. nat_eq y.query q) (x ∷ xs) ≤ 1 → count_by (λ y. nat_eq y.query q) xs ≤ 1
+less-turn q x xs most = omega (arith, most, sum_by-cons (λ (y : Runner). cond (nat_eq y.query q) 1 0) x xs)
+
+without-both : (session : ℕ) (xs : List Runner) (r : Runner) → find (λ y. nat_eq y.session session) xs ≡ Some r → count_by (λ y. nat_eq y.query r.query) xs ≤ 1
+    → map as_grant (without (λ y. nat_eq y.session session) xs) ≡ without (is_of r.query) (map as_grant xs)
+without-both session [] r found most = let none : None ≡ Some r = found in absurd (cc)
+without-both session (x ∷ xs) r found most =
+    without-turn session x r xs (nat_eq x.session session) refl found most (λ f. without-both session xs r f (less-turn r.query x xs most))
+
+pub given-stands : (s : State) (a : AccountsState) (session : ℕ) (r : Runner) → StandsFor s a → ((query : ℕ) → count_by (λ x. nat_eq x.query query) s.running ≤ 1)
+    → find (λ x. nat_eq x.session session) s.running ≡ Some r → StandsFor (record s { running = without_runner session s.running }) (given_back a r.query)
+given-stands s a session r h once found = record {
+  in_force = h.in_force;
+  actual = h.actual;
+  names = h.names;
+  grants = without-both session s.running r found (once r.query) ∙ ap (λ (gs : List Grant). without (is_of r.query) gs) h.grants;
+}
