@@ -1,5 +1,5 @@
 -- What each call keeps of the accounts.
-use Rattle.std.proofs.Common.{◌≡◌, ◌≤◌, ◌<◌, ℕ, ◌+◌, ◌-◌, Bool, true, false, ◌||◌, not, cond, List, [], ◌∷◌, ◌++◌, length, map, min, max, refl, ap, sym, subst, ◌∙◌, arith, sum, sum_by, count_by, nat_eq}
+use Rattle.std.proofs.Common.{◌≡◌, ◌≤◌, ◌<◌, ℕ, ◌+◌, Bool, true, false, ◌||◌, not, cond, List, [], ◌∷◌, ◌++◌, length, map, refl, ap, sym, subst, ◌∙◌, arith, sum, sum_by, count_by, nat_eq}
 use Rattle.std.specs.List.{zip, list_any, list_all}
 use Rattle.std.proofs.lemmas.Bool.{false≢true}
 use Rattle.std.proofs.lemmas.Bool.Decides.{nat_tests}
@@ -12,16 +12,16 @@ use Rattle.rm_base.specs.declared.rows.PoolRow.{PoolRow}
 use Rattle.rm_base.specs.declared.name.Name.{Name}
 use Rattle.rm_base.specs.Name.{same_name, general}
 use Rattle.rm_base.specs.Definitions.{default_pool_row}
-use Rattle.rm_base.proofs.Names.{same_name-eq, same_name-sym, same_name-refl}
+use Rattle.rm_base.proofs.Names.{same_name-eq, same_name-sym}
 use Rattle.rm_rules.specs.declared.state.Runner.{Runner}
 use Rattle.rm_rules.specs.Definitions.{total, user_pools}
-use Rattle.rm_rules.specs.State.{State, without}
+use Rattle.rm_rules.specs.State.{without}
 use Rattle.rm_rules.specs.Accounting.{used, debt, lent, free}
 use Rattle.rm_rules.specs.Admission.{need}
-use Rattle.rm_rules.specs.Shuffle.{fallen, with_force, grown, shuffled}
+use Rattle.rm_rules.specs.Shuffle.{fallen, with_force, shuffled}
 use Rattle.rm_rules.specs.Sound.{IsSound, are_distinct, begins_with_general}
 use Rattle.rm_rules.proofs.Bytes.{AreApart, absent-zip, apart-zip, lent-push, debts-less}
-use Rattle.rm_rules.proofs.Pools.{split_by_pools, in_pool, pool_names}
+use Rattle.rm_rules.proofs.Pools.{split_by_pools, pool_names}
 use Rattle.rm_rules.proofs.Taken.{and_left, and_right, and_both, or_left_false, or_right_false, or_both_false, not_false, all_push, all_without}
 use Rattle.rm_rules.proofs.Shuffling.{fallen-sum, fallen-debts, fallen-length, grown-sums, grown-length}
 use Rattle.accounts.specs.declared.holdings.Grant.{Grant}

@@ -11,7 +11,7 @@ use Rattle.rm_rules.specs.Definitions.{user_pools}
 use Rattle.rm_rules.specs.State.{State}
 use Rattle.rm_rules.specs.Accounting.{used, debt, lent, own_of, unused_of}
 use Rattle.rm_rules.specs.Conserved.{actual_of}
-use Rattle.accounts.specs.Accounts.{AccountsState, names_in, state_of, state_under, runners}
+use Rattle.accounts.specs.Accounts.{AccountsState, names_in, state_of, runners}
 use Rattle.accounts.specs.Bytes.{own_at, unused_at, debt_at, worth_of, pool_at, lent_by}
 
 pub names-default : (names : List Name) → map (λ r. r.name) (map default_pool_row names) ≡ names

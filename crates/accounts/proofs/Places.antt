@@ -1,6 +1,6 @@
 -- The first place in a list at which a test passes, and what stands there.
 use Rattle.std.proofs.Common.{◌≡◌, ◌≤◌, ◌<◌, ℕ, ◌+◌, suc, Bool, true, false, cond, not, ltb, Option, Some, None, List, [], ◌∷◌, length, get_or, take, take_while, find, refl, ap, sym, ◌∙◌, arith, remove, position}
-use Rattle.std.specs.List.{position_or_len, prefix_len}
+use Rattle.std.specs.List.{position_or_len}
 use Rattle.std.proofs.lemmas.Bool.Decides.{nat_tests}
 use Rattle.rm_rules.specs.State.{without}
 

@@ -1,5 +1,5 @@
 -- What the fields of open accounts say of the accounts as they are seen.
-use Rattle.std.proofs.Common.{◌≡◌, ◌<◌, ◌≤◌, ℕ, ◌+◌, ◌-◌, ◌^◌, max, min, Option, Some, None, List, [], ◌∷◌, ◌++◌, ap, sym, subst, ◌∙◌, arith, map, sum, position, find, take, get_or}
+use Rattle.std.proofs.Common.{◌≡◌, ◌<◌, ℕ, ◌+◌, ◌-◌, ◌^◌, max, Option, Some, None, List, [], ◌∷◌, ◌++◌, ap, sym, subst, ◌∙◌, arith, map, sum, position, take, get_or}
 use Rattle.std.specs.List.{zip}
 use Rattle.rm_base.specs.declared.entry.Account.{Account}
 use Rattle.rm_base.specs.declared.definitions.Definitions.{Definitions}
@@ -7,8 +7,8 @@ use Rattle.rm_base.specs.declared.rows.PoolRow.{PoolRow}
 use Rattle.rm_base.specs.declared.name.Name.{Name}
 use Rattle.rm_rules.specs.Definitions.{total, user_pools}
 use Rattle.rm_rules.specs.Accounting.{own_of, unused_of, lent, free, account_behind}
-use Rattle.rm_rules.specs.Shuffle.{fallen, with_force, grown_sizes, shuffled}
-use Rattle.rm_rules.specs.State.{State, without}
+use Rattle.rm_rules.specs.Shuffle.{fallen, with_force, grown_sizes}
+use Rattle.rm_rules.specs.State.{without}
 use Rattle.rm_rules.specs.Conserved.{actual_of}
 use Rattle.rm_rules.specs.Sound.{IsSound}
 use Rattle.accounts.specs.declared.holdings.Accounts.TheInside.{Inside}
@@ -18,7 +18,7 @@ use Rattle.accounts.specs.Bytes.{own_at, unused_at, worth_of, pool_at, lent_by, 
 use Rattle.accounts.specs.Kept.{IsKept, seen}
 use Rattle.accounts.proofs.Named.{lent_of, own_of_names, unused_of_names, actual_of_names}
 use Rattle.accounts.proofs.Keeping.{kept_first, lent-under}
-use Rattle.accounts.proofs.Places.{without-found, without-absent, find-found, find-absent, before-found}
+use Rattle.accounts.proofs.Places.{without-absent, find-found, find-absent, before-found}
 
 -- lists that are those of the fields
 pub record AreOf (ps : List Name) (ns : List ℕ) (gs : List Grant) (m : Inside) : Type 0 where

@@ -1,11 +1,10 @@
 -- A state for which accounts stand.
-use Rattle.std.proofs.Common.{◌≡◌, ◌≤◌, ℕ, ◌+◌, ◌-◌, ◌^◌, max, min, suc, Bool, true, false, not, cond, nat_eq, nat_lt, if◌then◌else◌, Option, Some, None, List, [], ◌∷◌, ◌++◌, refl, ap, sym, subst, ◌∙◌, arith, map, sum, sum_by, count_by, find, take_while}
+use Rattle.std.proofs.Common.{◌≡◌, ◌≤◌, ℕ, ◌+◌, ◌-◌, max, min, suc, Bool, true, false, not, cond, nat_eq, nat_lt, if◌then◌else◌, Option, Some, None, List, [], ◌∷◌, ◌++◌, refl, ap, sym, ◌∙◌, arith, map, sum, sum_by, count_by, find, take_while}
 use Rattle.std.specs.List.{zip, prefix_len}
 use Rattle.std.proofs.lemmas.Bool.{false≢true}
 use Rattle.std.proofs.lemmas.Bool.Decides.{nat_tests}
 use Rattle.std.proofs.lemmas.List.{map-append}
 use Rattle.std.proofs.lemmas.List.Sums.{sum_by-cons}
-use Rattle.rm_base.specs.declared.definitions.Definitions.{Definitions}
 use Rattle.rm_base.specs.declared.entry.Account.{Account}
 use Rattle.rm_base.specs.declared.rows.PoolRow.{PoolRow}
 use Rattle.rm_base.specs.declared.name.Name.{Name}
@@ -16,14 +15,14 @@ use Rattle.rm_rules.specs.State.{State, without, without_runner}
 use Rattle.rm_rules.specs.Accounting.{used, debt, own_of, unused_of, lent, free, account_behind, accounts_behind, accounts}
 use Rattle.rm_rules.specs.Admission.{need}
 use Rattle.rm_rules.specs.Conserved.{actual_of}
-use Rattle.rm_rules.specs.Shuffle.{fallen, fallen_size, with_force, grown, growth, grown_sizes, shuffled}
+use Rattle.rm_rules.specs.Shuffle.{fallen, with_force, growth, grown_sizes, shuffled}
 use Rattle.rm_rules.proofs.Bytes.{used-push}
 use Rattle.rm_rules.proofs.Taken.{counted_among, sum_without}
 use Rattle.accounts.specs.declared.holdings.Grant.{Grant}
-use Rattle.accounts.specs.Accounts.{AccountsState, StandsFor, as_grant, as_runner, runners, names_in, state_of, state_under, is_of, no_account, account_of, taken, given_back, shuffled_under}
-use Rattle.accounts.specs.Bytes.{held_in, own_at, unused_at, debt_at, worth_of, pool_at, lent_by}
+use Rattle.accounts.specs.Accounts.{AccountsState, StandsFor, as_grant, as_runner, runners, state_of, state_under, is_of, no_account, account_of, taken, given_back, shuffled_under}
+use Rattle.accounts.specs.Bytes.{held_in, own_at, unused_at, worth_of, pool_at, lent_by}
 use Rattle.accounts.proofs.Sums.{sum_by-map, used_runners}
-use Rattle.accounts.proofs.Named.{names-default, lent-named, lent_of, own-named, unused-named, actual-named, own_of_names, unused_of_names, actual_of_names}
+use Rattle.accounts.proofs.Named.{lent-named, lent_of, own-named, unused-named, actual-named, own_of_names, unused_of_names, actual_of_names}
 
 -- the use of each pool is read off the grants
 used-grants : (pool : Name) (running : List Runner) → used pool running ≡ sum_by (held_in pool) (map as_grant running)

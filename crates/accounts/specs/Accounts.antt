@@ -1,5 +1,5 @@
 -- What the accounts are seen as, the state of the rules for which they stand, and what each call does to them.
-use Rattle.std.specs.Prelude.{◌≡◌, ℕ, ◌==◌, Bool, not, List, [], ◌∷◌, ◌++◌, Option, Some, None, find, take_while, map, count_by, false}
+use Rattle.std.specs.Prelude.{◌≡◌, ℕ, ◌==◌, Bool, not, List, [], ◌∷◌, ◌++◌, Some, None, find, take_while, map, count_by, false}
 use Rattle.std.specs.List.{list_any}
 use Rattle.rm_base.specs.declared.definitions.Definitions.{Definitions}
 use Rattle.rm_base.specs.declared.entry.Account.{Account}

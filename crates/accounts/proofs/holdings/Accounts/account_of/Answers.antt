@@ -1,4 +1,4 @@
-use Rattle.std.proofs.Common.{◌≡◌, ◌∙◌, sym, ap, position, take, get_or, Some, List}
+use Rattle.std.proofs.Common.{◌∙◌, sym, ap, position, take, get_or, List}
 use Rattle.rm_base.specs.declared.entry.Account.{Account}
 use Rattle.rm_base.specs.declared.name.Name.{Name}
 use Rattle.accounts.specs.declared.holdings.Grant.{Grant}

@@ -1,5 +1,4 @@
-use Rattle.std.proofs.Common.{◌≡◌, ◌∙◌, sym, ap, subst, arith, position, get_or, Option, Some, None, List, ℕ}
-use Rattle.rm_rules.specs.State.{without}
+use Rattle.std.proofs.Common.{◌≡◌, ◌∙◌, sym, ap, subst, arith, position, get_or, Some, List}
 use Rattle.accounts.specs.declared.holdings.Grant.{Grant}
 use Rattle.accounts.specs.Accounts.{AccountsState, is_of}
 use Rattle.accounts.specs.Kept.{IsKept}

@@ -1,5 +1,4 @@
 use Rattle.std.proofs.Common.{arith}
-use Rattle.accounts.specs.Kept.{seen}
 use Rattle.accounts.proofs.Seen.{kept-new}
 use Rattle.accounts.proofs.holdings.Accounts.new.Goals as goal
 
