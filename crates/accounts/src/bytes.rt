@@ -1,5 +1,5 @@
 //! Bytes, as sums over the lists of names, sizes and grants.
-ghost use Rattle.std.specs.Prelude.{◌≡◌, ◌<◌, ◌≤◌, ◌+◌, ◌-◌, ◌^◌, min, length, sum_by, find};
+ghost use Rattle.std.specs.Prelude.{◌≡◌, ◌<◌, ◌≤◌, ◌+◌, ◌-◌, ◌^◌, length, sum_by};
 ghost use Rattle.std.specs.List.{zip};
 ghost use Rattle.rm_rules.specs.Accounting.{used};
 ghost use Rattle.accounts.specs.Accounts.{runners};

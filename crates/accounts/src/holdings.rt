@@ -1,6 +1,5 @@
 //! The accounts of the running queries.
-ghost use Rattle.std.specs.Prelude.{◌≡◌, ◌<◌, ◌≤◌, ◌+◌, ◌-◌, ◌==◌, true, false, length, map, sum, position, find, slice_index, take, vec_capacity, IfOk, IfSome, IsTrue, IsFalse};
-ghost use Rattle.std.specs.List.{list_any};
+ghost use Rattle.std.specs.Prelude.{◌≡◌, ◌<◌, ◌≤◌, ◌+◌, true, false, length, map, position, slice_index, vec_capacity, IfOk, IfSome};
 ghost use Rattle.rm_base.specs.declared.limits.TheConstants.{MEMORY_MOST, POOLS_MOST, SESSIONS_MOST};
 ghost use Rattle.rm_rules.specs.Definitions.{user_pools};
 ghost use Rattle.rm_rules.specs.Sound.{IsSound};
@@ -93,12 +92,10 @@ fn place_of(grants: &[Grant], query: u64) -> Option<usize>
 }
 
 impl Accounts {
-    ghost use Rattle.rm_rules.specs.State.{State};
-    ghost use Rattle.rm_rules.specs.Accounting.{used, own_of, unused_of, lent, free, account_behind};
+    ghost use Rattle.rm_rules.specs.Accounting.{used, lent, free};
     ghost use Rattle.rm_rules.specs.Admission.{need};
     ghost use Rattle.rm_rules.specs.Conserved.{actual_of};
-    ghost use Rattle.accounts.specs.Accounts.{as_runner, runners, state_of, has_name, has_query, queries, running_in, grant_of, account_of, taken, given_back, with_pool, shuffled_under};
-    ghost use Rattle.accounts.specs.Bytes.{held};
+    ghost use Rattle.accounts.specs.Accounts.{state_of, has_name, has_query, queries, running_in, grant_of, account_of, taken, given_back, with_pool, shuffled_under};
 
     /// No query runs yet. All memory that the accounts will ever use is taken here.
     pub fn new(alloc: Global, definitions: &Definitions) -> Result<Accounts, AllocError>
@@ -125,14 +122,15 @@ impl Accounts {
     /// What the pool's queries hold.
     pub fn used(&self, pool: Name) -> u64
         ensures value { result ≡ used pool (state_of self.now).running }
-        ensures most { result ≤ self.now.in_force }
+        ensures most { result ≤ MEMORY_MOST }
     {
         used(&self.grants, pool)
     }
 
     /// GENERAL's use: its own queries' grants, and all that pools have borrowed.
     pub fn lent(&self) -> u64
-        ensures { result ≡ lent (state_of self.now) }
+        ensures value { result ≡ lent (state_of self.now) }
+        ensures most { result ≤ MEMORY_MOST }
     {
         lent(&self.names, &self.actual, &self.grants)
     }
@@ -140,7 +138,7 @@ impl Accounts {
     /// GENERAL's free bytes.
     pub fn free(&self) -> u64
         ensures value { result ≡ free (state_of self.now) }
-        ensures most { result ≤ self.now.in_force }
+        ensures most { result ≤ MEMORY_MOST }
     {
         self.in_force - reserved(&self.actual) - self.lent()
     }

@@ -1,5 +1,5 @@
 //! The shuffle of the pools' actual sizes.
-ghost use Rattle.std.specs.Prelude.{◌≡◌, ◌<◌, ◌≤◌, ◌+◌, ◌-◌, ◌^◌, length, map, sum, max};
+ghost use Rattle.std.specs.Prelude.{◌≡◌, ◌<◌, ◌+◌, ◌-◌, ◌^◌, length, map, sum, max};
 ghost use Rattle.std.specs.List.{zip};
 ghost use Rattle.rm_rules.specs.Accounting.{debt};
 ghost use Rattle.rm_rules.specs.Shuffle.{fallen_size, growth, grown_sizes};
