@@ -150,6 +150,13 @@ impl Accounts {
         size_of(&self.names, &self.actual, pool)
     }
 
+    /// The actual sizes of all pools but GENERAL, in their order.
+    pub fn sizes(&self) -> &[u64]
+        ensures { result.now ≡ self.now.actual }
+    {
+        &self.actual
+    }
+
     /// What a query of so many bytes would need of GENERAL's, beyond what its pool has unused.
     pub fn need(&self, pool: Name, bytes: u64) -> u64
         ensures value { result ≡ need (state_of self.now) pool bytes }

@@ -1,7 +1,5 @@
-pub mod Sums
 pub mod Places
 pub mod Ends
-pub mod Turns
 pub mod Seen
 pub mod Heads
 pub mod Settling

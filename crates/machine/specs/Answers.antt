@@ -1,10 +1,9 @@
 -- How an event that is not refused is answered.
-use Rattle.std.specs.Prelude.{ℕ, ◌-◌, ◌==◌, min, not, take_while, if◌then◌else◌}
+use Rattle.std.specs.Prelude.{ℕ, ◌==◌, not, take_while}
 use Rattle.rm_base.specs.declared.entry.Account.{Account}
 use Rattle.rm_rules.specs.declared.state.Runner.{Runner}
 use Rattle.rm_rules.specs.State.{State}
-use Rattle.rm_base.specs.Name.{same_name, general}
-use Rattle.rm_rules.specs.Accounting.{own_of, account_behind}
+use Rattle.rm_rules.specs.Accounting.{account_behind}
 use Rattle.machine.specs.declared.told.Done.{Done}
 use Rattle.machine.specs.declared.told.Told.{Told}
 use Rattle.machine.specs.declared.told.Told.TheVariants as told
@@ -17,12 +16,6 @@ answer_of (told.Tells session) = Tells session
 -- the change to this state, with this answer
 abbrev pub change_to : State → Done → Change
 change_to s done = record { state = s; answer = answer_of done.told; changed = done.changed }
-
--- the account of a running query, where those before it in its pool hold so much
-abbrev pub account_by : State → ℕ → Runner → Account
-account_by s before r =
-    let own_bytes = if same_name r.pool general then r.grant else min r.grant (own_of s r.pool - before) in
-    record { pool = r.pool; own = own_bytes; borrowed = r.grant - own_bytes }
 
 -- the account of a session's running query
 abbrev pub account_of : State → ℕ → Runner → Account

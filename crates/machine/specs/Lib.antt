@@ -1,4 +1,3 @@
-pub mod Accounts
 pub mod Capacity
 pub mod Answers
 pub mod Refusals

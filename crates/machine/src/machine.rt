@@ -1,13 +1,11 @@
 //! The state of the pool machine in memory, and what an event does to it.
 ghost use Rattle.std.specs.Prelude.{◌≡◌, ◌<◌, ◌≤◌, ◌+◌, true, false, map, length, vec_capacity, IfOk};
 ghost use Rattle.rm_base.specs.declared.limits.TheConstants.{POOLS_MOST, CHANGES_MOST};
-ghost use Rattle.rm_rules.specs.Definitions.{user_pools};
 ghost use Rattle.rm_rules.specs.State.{no_ends, is_defined};
 
-use crate::accounts::user_pools;
 use crate::counters::none_ended;
 use crate::told::Told;
-use budgets::total;
+use accounts::Accounts;
 use rm_base::definitions::Definitions;
 use rm_base::entry::{Answered, EndCounts, Entry, MoveSeen};
 use rm_base::event::Event;
@@ -37,8 +35,7 @@ pub const ENTRIES_BEYOND: usize = 1_408;
 #[derive(Debug, Drop)]
 pub struct Machine {
     definitions: Definitions,
-    in_force: u64,
-    actual: Vec<u64>,
+    accounts: Accounts,
     sessions: Vec<Session>,
     running: Vec<Runner>,
     waiting: Vec<Waiter>,
@@ -62,19 +59,6 @@ impl Model for Machine {
     ghost view = { seen };
 
     ghost invariant = { HasCapacity };
-}
-
-/// The MEMORYSIZE of each pool but GENERAL, with room for all pools that may be.
-fn sizes(alloc: Global, pools: &[PoolRow]) -> Result<Vec<u64>, AllocError>
-    requires { length pools.now ≤ POOLS_MOST }
-    ensures items { IfOk result (λ sizes. sizes.items ≡ map (λ r. r.memory) (user_pools pools.now)) }
-    ensures room { IfOk result (λ sizes. POOLS_MOST ≤ vec_capacity sizes) }
-{
-    let mut sizes = Vec::with_capacity(alloc, POOLS_MOST)?;
-    for row in user_pools(pools) {
-        sizes.push_reserved(row.memory);
-    }
-    Ok(sizes)
 }
 
 /// No ended query for each pool, with room for all pools that may be.
@@ -112,13 +96,11 @@ impl Machine {
         ensures { IfOk result (λ machine. machine ≡ start definitions room) }
     {
         let entries = room as usize + ENTRIES_BEYOND + CHANGES_MOST as usize;
-        let rows = definitions.pools.rows();
-        let actual = sizes(alloc, rows)?;
-        let counters = no_ends(alloc, rows)?;
+        let accounts = Accounts::new(alloc, &definitions)?;
+        let counters = no_ends(alloc, definitions.pools.rows())?;
         Ok(Machine {
-            in_force: total(&definitions),
             definitions,
-            actual,
+            accounts,
             sessions: Vec::with_capacity(alloc, SESSIONS_MOST)?,
             running: Vec::with_capacity(alloc, SESSIONS_MOST)?,
             waiting: Vec::with_capacity(alloc, SESSIONS_MOST)?,

@@ -1,6 +1,5 @@
 //! Statements on the definitions.
-ghost use Rattle.std.specs.Prelude.{◌≡◌, ◌<◌, Ok, Err, length, IsTrue, IsOk, IfOk, IfErr, OnOk, OnErr};
-ghost use Rattle.rm_base.specs.declared.limits.TheConstants.{POOLS_MOST};
+ghost use Rattle.std.specs.Prelude.{◌≡◌, Ok, Err, length, IsTrue, IsOk, IfOk, IfErr, OnOk, OnErr};
 
 use super::Machine;
 use crate::counters::none_ended;
@@ -36,18 +35,16 @@ impl Machine {
         requires formed { IsWellFormed statement.now }
         requires judged { IsTrue (is_pool_statement statement.now) }
         requires accepted { IsOk (accepted self.old.definitions statement.now) }
-        requires sizes { length self.old.actual < POOLS_MOST }
         requires counts { length self.old.counters ≡ length self.old.definitions.pools }
         ensures definitions { accepted self.old.definitions statement.now ≡ Ok self.new.definitions }
         ensures state { self.new ≡ (defined self.old self.new.definitions).state }
     {
         let pools = self.definitions.pools.rows().len();
         apply(&mut self.definitions, statement);
-        if self.definitions.pools.rows().len() <= pools {
-            return;
+        if let Some(row) = self.definitions.pools.rows().get(pools) {
+            self.accounts.add_pool(row.name);
+            self.counters.push_reserved(none_ended());
         }
-        self.actual.push_reserved(0);
-        self.counters.push_reserved(none_ended());
     }
 
     /// A statement on the definitions.

@@ -204,6 +204,7 @@ impl Machine {
 
     /// The session's query ends, and its grant is given back.
     fn finishing(&mut self, seat: u32, session: u32) -> Result<Done, Refusal>
+        requires { IsHealthy self.old }
         ensures ok { IfOk result (λ done.
             finishing self.old (session_of self.old seat session) ≡ Ok (change_to self.new done)) }
         ensures err { IfErr result (λ refusal.
@@ -221,6 +222,7 @@ impl Machine {
         }
         set_phase(&mut self.sessions, x.number, Phase::Idle);
         take_runner(&mut self.running, x.number);
+        self.accounts.give_back(r.query);
         Ok(Done {
             told: Told::Says(Reply::Released(r.grant)),
             changed: true,

@@ -1,5 +1,5 @@
 //! Snapshots.
-ghost use Rattle.std.specs.Prelude.{◌≡◌, ◌≤◌, map, take, length, IfOk};
+ghost use Rattle.std.specs.Prelude.{◌≡◌, ◌<◌, map, take, length, slice_index, IfOk};
 ghost use Rattle.std.specs.List.{zip};
 ghost use Rattle.machine.specs.Looked.{condition_of, waiting_seen};
 
@@ -63,8 +63,7 @@ fn moves_seen(alloc: Global, moves: &[MoveSeen]) -> Result<Vec<MoveSeen>, AllocE
 
 impl Machine {
     ghost use Rattle.rm_rules.specs.Accounting.{accounts, account_behind};
-    ghost use Rattle.rm_rules.specs.Sound.{IsSound};
-    ghost use Rattle.rm_rules.specs.Healthy.{IsHeld};
+    ghost use Rattle.rm_rules.specs.Healthy.{AreNumbered};
     ghost use Rattle.machine.specs.Looked.{session_seen, running_seen, snapshot_of};
 
     fn session_seen(&self, x: &Session) -> SessionSeen
@@ -92,23 +91,22 @@ impl Machine {
 
     /// The query that runs behind so many others.
     fn running_seen(&self, r: &Runner, place: usize) -> RunningSeen
-        requires sound { IsSound self.now.definitions }
-        requires held { IsHeld self.now }
-        requires within { place ≤ length self.now.running }
+        requires numbered { AreNumbered self.now }
+        requires within { place < length self.now.running }
+        requires at { r.now ≡ slice_index self.now.running place }
         ensures { result ≡ running_seen (r.now, account_behind self.now (take place self.now.running) r.now) }
     {
         RunningSeen {
             query: r.query,
             session: r.session,
-            account: self.account_at(r, place),
+            account: self.account_at(place),
             start: r.start,
             moves: r.moves,
         }
     }
 
     fn runs_seen(&self, alloc: Global) -> Result<Vec<RunningSeen>, AllocError>
-        requires sound { IsSound self.now.definitions }
-        requires held { IsHeld self.now }
+        requires { AreNumbered self.now }
         ensures { IfOk result (λ seen.
             seen.items ≡ map running_seen (zip self.now.running (accounts self.now))) }
     {
@@ -121,14 +119,13 @@ impl Machine {
 
     /// The state as it stands.
     pub fn look(&self, alloc: Global) -> Result<Snapshot, AllocError>
-        requires sound { IsSound self.now.definitions }
-        requires held { IsHeld self.now }
+        requires { AreNumbered self.now }
         ensures { IfOk result (λ snapshot. snapshot ≡ snapshot_of self.now) }
     {
         Ok(Snapshot {
             definitions: self.definitions.copy(alloc)?,
-            in_force: self.in_force,
-            actual: Listed::of(sizes_seen(alloc, &self.actual)?),
+            in_force: self.accounts.in_force(),
+            actual: Listed::of(sizes_seen(alloc, self.accounts.sizes())?),
             sessions: Listed::of(self.sessions_seen(alloc)?),
             running: Listed::of(self.runs_seen(alloc)?),
             waiting: Listed::of(queue_seen(alloc, &self.waiting)?),

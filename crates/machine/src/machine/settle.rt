@@ -1,5 +1,5 @@
 //! What follows each change: queries that are too large now end, sizes are shuffled, and heads are admitted.
-ghost use Rattle.std.specs.Prelude.{◌≡◌, ◌<◌, length, Some, IfSome, IfNone, option_and_then};
+ghost use Rattle.std.specs.Prelude.{◌≡◌, ◌<◌, ◌≤◌, ◌==◌, true, count_by, length, Some, IfSome, IfNone, option_and_then};
 ghost use Rattle.rm_base.specs.declared.limits.TheConstants.{SESSIONS_MOST};
 ghost use Rattle.machine.specs.Settling.{end_by};
 
@@ -21,10 +21,11 @@ fn end_by(refusal: Refusal) -> Option<End>
 }
 
 impl Machine {
-    ghost use Rattle.rm_rules.specs.Admission.{admitted, admission};
+    ghost use Rattle.rm_rules.specs.Accounting.{free};
+    ghost use Rattle.rm_rules.specs.Admission.{ask_of, need, admitted, admission};
     ghost use Rattle.rm_rules.specs.Settle.{ended_as, first_too_large, ended_too_large, without_too_large, settled};
-    ghost use Rattle.rm_rules.specs.Sound.{IsSound};
-    ghost use Rattle.rm_rules.specs.Healthy.{IsHeld, IsCovered, AreInPhase};
+    ghost use Rattle.rm_rules.specs.Sound.{IsSound, has_pool};
+    ghost use Rattle.rm_rules.specs.Healthy.{IsHeld, IsCovered, AreInPhase, AreNumbered};
     ghost use Rattle.machine.specs.Settling.{if_ends};
 
     /// How the waiting query ends, where it is too large now.
@@ -67,10 +68,12 @@ impl Machine {
         requires sound { IsSound self.old.definitions }
         requires held { IsHeld self.old }
         requires in_phase { AreInPhase self.old }
+        requires numbered { AreNumbered self.old }
         ensures state { self.new ≡ without_too_large self.old }
         ensures sound { IsSound self.new.definitions }
         ensures held { IsHeld self.new }
         ensures in_phase { AreInPhase self.new }
+        ensures numbered { AreNumbered self.new }
     {
         while let Some((w, end)) = self.first_too_large() {
             self.end_as(w, end);
@@ -81,11 +84,15 @@ impl Machine {
     fn admit(&mut self, w: Waiter)
         requires sound { IsSound self.old.definitions }
         requires room { length self.old.running < SESSIONS_MOST }
+        requires absent { count_by (λ r. r.query == w.query) self.old.running ≡ 0 }
+        requires known { has_pool self.old.definitions w.pool ≡ true }
+        requires fits { need self.old w.pool (ask_of self.old w) ≤ free self.old }
         ensures { self.new ≡ admitted self.old w }
     {
         let grant = self.ask_of(&w);
         set_phase(&mut self.sessions, w.session, Phase::Running);
         take_waiter(&mut self.waiting, w.session);
+        self.accounts.take(w.query, w.pool, grant);
         self.running.push_reserved(Runner {
             query: w.query,
             session: w.session,
@@ -106,10 +113,12 @@ impl Machine {
         requires sound { IsSound self.old.definitions }
         requires covered { IsCovered self.old }
         requires in_phase { AreInPhase self.old }
+        requires numbered { AreNumbered self.old }
         ensures state { self.new ≡ admission self.old }
         ensures sound { IsSound self.new.definitions }
         ensures covered { IsCovered self.new }
         ensures in_phase { AreInPhase self.new }
+        ensures numbered { AreNumbered self.new }
     {
         while let Some(w) = self.first_entitled() {
             self.admit(w);
@@ -121,10 +130,12 @@ impl Machine {
         requires sound { IsSound self.old.definitions }
         requires held { IsHeld self.old }
         requires in_phase { AreInPhase self.old }
+        requires numbered { AreNumbered self.old }
         ensures state { self.new ≡ settled self.old }
         ensures sound { IsSound self.new.definitions }
         ensures covered { IsCovered self.new }
         ensures in_phase { AreInPhase self.new }
+        ensures numbered { AreNumbered self.new }
     {
         self.end_too_large();
         self.shuffle();

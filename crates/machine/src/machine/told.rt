@@ -1,83 +1,41 @@
 //! What a session is told of its query.
-ghost use Rattle.std.specs.Prelude.{◌≡◌, ◌≤◌, ◌==◌, not, length, take, take_while};
+ghost use Rattle.std.specs.Prelude.{◌≡◌, ◌<◌, ◌≤◌, Some, length, slice_index, take};
 ghost use Rattle.rm_base.specs.declared.limits.TheConstants.{SESSIONS_MOST};
 
 use super::Machine;
-use crate::accounts::{used, used_before};
 use crate::sessions::{place_of, runner_of, session_called, waiter_of};
 use crate::told::Told;
-use crate::users::is_general;
 use rm_base::entry::Account;
-use rm_base::name::Name;
 use rm_base::refusal::Refusal;
 use rm_base::reply::Reply;
 use rm_rules::state::{Phase, Runner};
 
 impl Machine {
-    ghost use Rattle.rm_rules.specs.Accounting.{used, account_behind};
+    ghost use Rattle.rm_rules.specs.Accounting.{account_behind};
     ghost use Rattle.rm_rules.specs.Change.{told_running, told_waiting, told_in_phase, told, reply_of, runner_of, waiter_of};
-    ghost use Rattle.rm_rules.specs.Sound.{IsSound};
-    ghost use Rattle.rm_rules.specs.Healthy.{IsHeld};
-    ghost use Rattle.machine.specs.Answers.{answer_of, account_by, account_of};
-
-    /// What the pool's queries hold that run before this session's query.
-    fn used_before(&self, session: u32, pool: Name) -> u64
-        requires sound { IsSound self.now.definitions }
-        requires held { IsHeld self.now }
-        ensures { result ≡ used pool (take_while (λ x. not (x.session == session)) self.now.running) }
-    {
-        used_before(&self.running, session, pool)
-    }
-
-    /// The bytes of its own pool that the running query holds, where those before it hold so much.
-    fn own_bytes(&self, r: &Runner, before: u64) -> u64
-        requires sound { IsSound self.now.definitions }
-        requires held { IsHeld self.now }
-        ensures value { result ≡ (account_by self.now before r.now).own }
-        ensures within { result ≤ r.now.grant }
-    {
-        if is_general(r.pool) {
-            return r.grant;
-        }
-        r.grant.min(self.own_of(r.pool).saturating_sub(before))
-    }
-
-    /// The account of the running query, where those before it in its pool hold so much.
-    fn account_by(&self, r: &Runner, before: u64) -> Account
-        requires sound { IsSound self.now.definitions }
-        requires held { IsHeld self.now }
-        ensures { result ≡ account_by self.now before r.now }
-    {
-        let own = self.own_bytes(r, before);
-        Account {
-            pool: r.pool,
-            own,
-            borrowed: r.grant - own,
-        }
-    }
+    ghost use Rattle.rm_rules.specs.Healthy.{AreNumbered};
+    ghost use Rattle.machine.specs.Answers.{answer_of, account_of};
 
     /// The account of this session's running query.
     fn account_of(&self, r: &Runner, session: u32) -> Account
-        requires sound { IsSound self.now.definitions }
-        requires held { IsHeld self.now }
+        requires numbered { AreNumbered self.now }
+        requires found { runner_of self.now.running session ≡ Some r.now }
         ensures { result ≡ account_of self.now session r.now }
     {
-        self.account_by(r, self.used_before(session, r.pool))
+        self.accounts.account_of(r.query)
     }
 
     /// The account of the query that runs behind so many others.
-    pub fn account_at(&self, r: &Runner, place: usize) -> Account
-        requires sound { IsSound self.now.definitions }
-        requires held { IsHeld self.now }
-        requires within { place ≤ length self.now.running }
-        ensures { result ≡ account_behind self.now (take place self.now.running) r.now }
+    pub fn account_at(&self, place: usize) -> Account
+        requires numbered { AreNumbered self.now }
+        requires within { place < length self.now.running }
+        ensures { result ≡ account_behind self.now (take place self.now.running) (slice_index self.now.running place) }
     {
-        self.account_by(r, used(&self.running[..place], r.pool))
+        self.accounts.account_of(self.running[place].query)
     }
 
     fn told_running(&self, session: u32) -> Reply
-        requires sound { IsSound self.now.definitions }
-        requires held { IsHeld self.now }
+        requires numbered { AreNumbered self.now }
         ensures { result ≡ told_running self.now session (runner_of self.now.running session) }
     {
         let Some(r) = runner_of(&self.running, session) else {
@@ -108,8 +66,7 @@ impl Machine {
 
     /// What a session is told of its query, as the state stands.
     fn told(&self, session: u32) -> Reply
-        requires sound { IsSound self.now.definitions }
-        requires held { IsHeld self.now }
+        requires numbered { AreNumbered self.now }
         requires few { length self.now.waiting ≤ SESSIONS_MOST }
         ensures { result ≡ told self.now session }
     {
@@ -126,8 +83,7 @@ impl Machine {
 
     /// The reply to an event that is not refused.
     pub fn reply_of(&self, told: Told) -> Reply
-        requires sound { IsSound self.now.definitions }
-        requires held { IsHeld self.now }
+        requires numbered { AreNumbered self.now }
         requires few { length self.now.waiting ≤ SESSIONS_MOST }
         ensures { result ≡ reply_of self.now (answer_of told) }
     {
