@@ -1,17 +1,20 @@
 -- A state for which accounts stand.
-use Rattle.std.proofs.Common.{◌≡◌, ◌≤◌, ℕ, ◌+◌, ◌-◌, max, min, suc, Bool, true, false, not, cond, nat_eq, nat_lt, if◌then◌else◌, Option, Some, None, List, [], ◌∷◌, ◌++◌, refl, ap, sym, ◌∙◌, arith, map, sum, sum_by, count_by, find, take_while}
-use Rattle.std.specs.List.{zip, prefix_len}
+use Rattle.std.proofs.Common.{◌≡◌, ◌≤◌, ℕ, ◌+◌, ◌-◌, max, min, suc, Bool, true, false, ◌||◌, not, cond, nat_eq, nat_lt, if◌then◌else◌, Option, Some, None, List, [], ◌∷◌, ◌++◌, refl, ap, sym, ◌∙◌, arith, map, sum, sum_by, count_by, find, take_while}
+use Rattle.std.specs.List.{zip, prefix_len, list_any}
 use Rattle.std.proofs.lemmas.Bool.{false≢true}
 use Rattle.std.proofs.lemmas.Bool.Decides.{nat_tests}
 use Rattle.std.proofs.lemmas.List.{map-append}
 use Rattle.std.proofs.lemmas.List.Sums.{sum_by-cons}
+use Rattle.rm_base.specs.declared.definitions.Definitions.{Definitions}
 use Rattle.rm_base.specs.declared.entry.Account.{Account}
 use Rattle.rm_base.specs.declared.rows.PoolRow.{PoolRow}
 use Rattle.rm_base.specs.declared.name.Name.{Name}
 use Rattle.rm_base.specs.Name.{same_name, general}
 use Rattle.rm_rules.specs.declared.state.Runner.{Runner}
 use Rattle.rm_rules.specs.Definitions.{total, user_pools}
-use Rattle.rm_rules.specs.State.{State, without, without_runner}
+use Rattle.rm_rules.specs.State.{State, start, without, without_runner}
+use Rattle.rm_rules.specs.Sound.{IsSound, has_pool}
+use Rattle.rm_rules.proofs.Pools.{is_called, pool_names}
 use Rattle.rm_rules.specs.Accounting.{used, debt, own_of, unused_of, lent, free, account_behind, accounts_behind, accounts}
 use Rattle.rm_rules.specs.Admission.{need}
 use Rattle.rm_rules.specs.Conserved.{actual_of}
@@ -19,7 +22,7 @@ use Rattle.rm_rules.specs.Shuffle.{fallen, with_force, growth, grown_sizes, shuf
 use Rattle.rm_rules.proofs.Bytes.{used-push}
 use Rattle.rm_rules.proofs.Taken.{counted_among, sum_without}
 use Rattle.accounts.specs.declared.holdings.Grant.{Grant}
-use Rattle.accounts.specs.Accounts.{AccountsState, StandsFor, as_grant, as_runner, runners, state_of, state_under, is_of, no_account, account_of, taken, given_back, shuffled_under}
+use Rattle.accounts.specs.Accounts.{AccountsState, StandsFor, as_grant, as_runner, runners, names_in, state_of, state_under, is_of, has_name, has_query, no_account, account_of, first_accounts, with_pool, taken, given_back, shuffled_under}
 use Rattle.accounts.specs.Bytes.{held_in, own_at, unused_at, worth_of, pool_at, lent_by}
 use Rattle.accounts.proofs.Sums.{sum_by-map, used_runners}
 use Rattle.accounts.proofs.Named.{lent-named, lent_of, own-named, unused-named, actual-named, own_of_names, unused_of_names, actual_of_names}
@@ -222,3 +225,30 @@ given-stands s a session r h once found = record {
   names = h.names;
   grants = without-both session s.running r found (once r.query) ∙ ap (λ (gs : List Grant). without (is_of r.query) gs) h.grants;
 }
+
+-- the start, and a pool more
+pub start-stands : (d : Definitions) (room : ℕ) → StandsFor (start d room) (first_accounts d)
+start-stands d room = record { in_force = refl; actual = refl; names = refl; grants = refl }
+
+pub added-stands : (s : State) (a : AccountsState) (d : Definitions) (pool : Name) → StandsFor s a → names_in d ≡ names_in s.definitions ++ pool ∷ []
+    → StandsFor (record s { definitions = d; actual = s.actual ++ 0 ∷ [] }) (with_pool a pool)
+added-stands s a d pool h named = record {
+  in_force = h.in_force;
+  actual = ap (λ (ns : List ℕ). ns ++ 0 ∷ []) h.actual;
+  names = named ∙ ap (λ (xs : List Name). xs ++ pool ∷ []) h.names;
+  grants = h.grants;
+}
+
+-- the pools and the queries that are there
+pub pools-stand : (s : State) (a : AccountsState) (pool : Name) → IsSound s.definitions → StandsFor s a → has_pool s.definitions pool ≡ has_name a.names pool
+pools-stand s a pool sound h =
+    is_called s.definitions.pools pool
+    ∙ ap (λ (xs : List Name). list_any (same_name pool) xs) (pool_names s.definitions.pools sound.general_first)
+    ∙ ap (λ (xs : List Name). has_name xs pool) h.names
+
+any-map : (query : ℕ) (running : List Runner) → list_any (λ x. nat_eq x.query query) running ≡ list_any (is_of query) (map as_grant running)
+any-map query [] = refl
+any-map query (r ∷ rs) = ap (λ b. nat_eq r.query query || b) (any-map query rs)
+
+pub queries-stand : (s : State) (a : AccountsState) (query : ℕ) → StandsFor s a → list_any (λ x. nat_eq x.query query) s.running ≡ has_query a query
+queries-stand s a query h = any-map query s.running ∙ ap (λ (gs : List Grant). list_any (is_of query) gs) h.grants
