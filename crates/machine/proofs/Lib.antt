@@ -2,6 +2,8 @@ pub mod Places
 pub mod Ends
 pub mod Seen
 pub mod Heads
+pub mod Looking
+pub mod Adding
 pub mod Settling
 pub mod Submitting
 pub mod Recording

@@ -41,8 +41,10 @@ impl Machine {
     {
         let pools = self.definitions.pools.rows().len();
         apply(&mut self.definitions, statement);
-        if let Some(row) = self.definitions.pools.rows().get(pools) {
-            self.accounts.add_pool(row.name);
+        let rows = self.definitions.pools.rows();
+        if pools < rows.len() {
+            let name = rows[pools].name;
+            self.accounts.add_pool(name);
             self.counters.push_reserved(none_ended());
         }
     }

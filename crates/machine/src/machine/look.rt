@@ -1,10 +1,10 @@
 //! Snapshots.
-ghost use Rattle.std.specs.Prelude.{◌≡◌, ◌<◌, map, take, length, slice_index, IfOk};
+ghost use Rattle.std.specs.Prelude.{◌≡◌, map, IfOk};
 ghost use Rattle.std.specs.List.{zip};
-ghost use Rattle.machine.specs.Looked.{condition_of, waiting_seen};
+ghost use Rattle.machine.specs.Looked.{condition_of, running_seen, waiting_seen};
 
 use super::Machine;
-use rm_base::entry::{EndCounts, MoveSeen};
+use rm_base::entry::{Account, EndCounts, MoveSeen};
 use rm_base::listed::Listed;
 use rm_base::snapshot::{Condition, RunningSeen, SessionSeen, Snapshot, WaitingSeen};
 use rm_rules::state::{Phase, Runner, Session, Waiter};
@@ -30,6 +30,18 @@ fn waiting_seen(w: &Waiter) -> WaitingSeen
         session: w.session,
         pool: w.pool,
         queued: w.queued,
+    }
+}
+
+fn running_seen(r: &Runner, account: Account) -> RunningSeen
+    ensures { result ≡ running_seen (r.now, account) }
+{
+    RunningSeen {
+        query: r.query,
+        session: r.session,
+        account,
+        start: r.start,
+        moves: r.moves,
     }
 }
 
@@ -62,7 +74,7 @@ fn moves_seen(alloc: Global, moves: &[MoveSeen]) -> Result<Vec<MoveSeen>, AllocE
 }
 
 impl Machine {
-    ghost use Rattle.rm_rules.specs.Accounting.{accounts, account_behind};
+    ghost use Rattle.rm_rules.specs.Accounting.{accounts};
     ghost use Rattle.rm_rules.specs.Healthy.{AreNumbered};
     ghost use Rattle.machine.specs.Looked.{session_seen, running_seen, snapshot_of};
 
@@ -89,30 +101,14 @@ impl Machine {
         Ok(seen)
     }
 
-    /// The query that runs behind so many others.
-    fn running_seen(&self, r: &Runner, place: usize) -> RunningSeen
-        requires numbered { AreNumbered self.now }
-        requires within { place < length self.now.running }
-        requires at { r.now ≡ slice_index self.now.running place }
-        ensures { result ≡ running_seen (r.now, account_behind self.now (take place self.now.running) r.now) }
-    {
-        RunningSeen {
-            query: r.query,
-            session: r.session,
-            account: self.account_at(place),
-            start: r.start,
-            moves: r.moves,
-        }
-    }
-
     fn runs_seen(&self, alloc: Global) -> Result<Vec<RunningSeen>, AllocError>
         requires { AreNumbered self.now }
         ensures { IfOk result (λ seen.
             seen.items ≡ map running_seen (zip self.now.running (accounts self.now))) }
     {
         let mut seen = Vec::with_capacity(alloc, self.running.len())?;
-        for (i, r) in self.running.iter().enumerate() {
-            seen.push_reserved(self.running_seen(r, i));
+        for r in &self.running {
+            seen.push_reserved(running_seen(r, self.accounts.account_of(r.query)));
         }
         Ok(seen)
     }

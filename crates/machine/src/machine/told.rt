@@ -1,5 +1,5 @@
 //! What a session is told of its query.
-ghost use Rattle.std.specs.Prelude.{◌≡◌, ◌<◌, ◌≤◌, Some, length, slice_index, take};
+ghost use Rattle.std.specs.Prelude.{◌≡◌, ◌≤◌, Some, length};
 ghost use Rattle.rm_base.specs.declared.limits.TheConstants.{SESSIONS_MOST};
 
 use super::Machine;
@@ -11,7 +11,6 @@ use rm_base::reply::Reply;
 use rm_rules::state::{Phase, Runner};
 
 impl Machine {
-    ghost use Rattle.rm_rules.specs.Accounting.{account_behind};
     ghost use Rattle.rm_rules.specs.Change.{told_running, told_waiting, told_in_phase, told, reply_of, runner_of, waiter_of};
     ghost use Rattle.rm_rules.specs.Healthy.{AreNumbered};
     ghost use Rattle.machine.specs.Answers.{answer_of, account_of};
@@ -23,15 +22,6 @@ impl Machine {
         ensures { result ≡ account_of self.now session r.now }
     {
         self.accounts.account_of(r.query)
-    }
-
-    /// The account of the query that runs behind so many others.
-    pub fn account_at(&self, place: usize) -> Account
-        requires numbered { AreNumbered self.now }
-        requires within { place < length self.now.running }
-        ensures { result ≡ account_behind self.now (take place self.now.running) (slice_index self.now.running place) }
-    {
-        self.accounts.account_of(self.running[place].query)
     }
 
     fn told_running(&self, session: u32) -> Reply

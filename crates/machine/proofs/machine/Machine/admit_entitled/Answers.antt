@@ -1,15 +1,21 @@
 use Rattle.std.proofs.Common.{◌∙◌, ap, sym, subst, refl, length, arith}
 use Rattle.rm_rules.specs.State.{State}
-use Rattle.machine.proofs.Settling.{Admits, room-entitled, waiting-admitted, admits-one, admission-none}
+use Rattle.machine.proofs.Settling.{Admits, room-entitled, absent-entitled, known-entitled, fits-entitled, waiting-admitted, admits-one, admission-none}
 use Rattle.machine.proofs.machine.Machine.admit_entitled.Goals as goal
 
 pub admit-requires : goal.admit-requires
 admit-requires c =
     let picked = sym c.first_entitled.ensures ∙ c.in-Some.is in
-    record { sound = c.loop-w.invariant.sound; room = room-entitled c.loop-w.self c.in-Some.w c.loop-w.invariant.in_phase picked }
+    record {
+      sound = c.loop-w.invariant.sound;
+      room = room-entitled c.loop-w.self c.in-Some.w c.loop-w.invariant.in_phase picked;
+      absent = absent-entitled c.loop-w.self c.in-Some.w c.loop-w.invariant.numbered picked;
+      known = known-entitled c.loop-w.self c.in-Some.w c.loop-w.invariant.covered.held picked;
+      fits = fits-entitled c.loop-w.self c.in-Some.w picked;
+    }
 
 pub loop-w-init : goal.loop-w-init
-loop-w-init c = record { same = refl; sound = c.requires.sound; covered = c.requires.covered; in_phase = c.requires.in_phase }
+loop-w-init c = record { same = refl; sound = c.requires.sound; covered = c.requires.covered; in_phase = c.requires.in_phase; numbered = c.requires.numbered }
 
 pub loop-w-preserved : goal.loop-w-preserved
 loop-w-preserved c =
@@ -27,4 +33,5 @@ returns c = record {
   sound = c.loop-w.invariant.sound;
   covered = c.loop-w.invariant.covered;
   in_phase = c.loop-w.invariant.in_phase;
+  numbered = c.loop-w.invariant.numbered;
 }

@@ -7,7 +7,7 @@ pub end_as-requires : goal.end_as-requires
 end_as-requires c = c.loop-w.invariant.held.counts
 
 pub loop-w-init : goal.loop-w-init
-loop-w-init c = record { same = refl; sound = c.requires.sound; held = c.requires.held; in_phase = c.requires.in_phase }
+loop-w-init c = record { same = refl; sound = c.requires.sound; held = c.requires.held; in_phase = c.requires.in_phase; numbered = c.requires.numbered }
 
 pub loop-w-preserved : goal.loop-w-preserved
 loop-w-preserved c =
@@ -24,4 +24,5 @@ returns c = record {
   sound = c.loop-w.invariant.sound;
   held = c.loop-w.invariant.held;
   in_phase = c.loop-w.invariant.in_phase;
+  numbered = c.loop-w.invariant.numbered;
 }

@@ -4,9 +4,9 @@ use Rattle.rm_rules.specs.Accounting.{accounts, accounts_behind}
 use Rattle.machine.specs.Looked.{running_seen}
 use Rattle.machine.proofs.machine.Machine.runs_seen.Given as goal
 
-abbrev pub invariant-loop-i : goal.invariant-loop-i
-invariant-loop-i l =
+abbrev pub invariant-loop-r : goal.invariant-loop-r
+invariant-loop-r l =
     (map running_seen (zip l.self.running (accounts l.self))
-    ≡ l.seen.items ++ map running_seen (zip (drop l.i l.self.running) (accounts_behind l.self (take l.i l.self.running) (drop l.i l.self.running))))
-    × (vec_len l.seen ≡ l.i)
+    ≡ l.seen.items ++ map running_seen (zip (drop l.r-index l.self.running) (accounts_behind l.self (take l.r-index l.self.running) (drop l.r-index l.self.running))))
+    × (vec_len l.seen ≡ l.r-index)
     × (vec_capacity l.seen ≡ length l.self.running)
