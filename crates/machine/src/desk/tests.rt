@@ -1,24 +1,28 @@
 ghost use Rattle.std.specs.Prelude.{◌≡◌, ◌<◌, ◌+◌, ◌^◌, true, length, IfOk};
 ghost use Rattle.rm_base.specs.Ranges.{passes_if_set, is_size, is_pool_change_in_range};
 ghost use Rattle.rm_rules.specs.Sound.{IsSound};
+ghost use Rattle.rm_rules.specs.Step.{IsFormed};
 
 use super::Desk;
 use rm_base::definitions::{Definitions, default_pool_row, default_user_row};
-use rm_base::entry::{Account, Answered};
+use rm_base::entry::Account;
 use rm_base::event::Event;
 use rm_base::moment::Moment;
 use rm_base::name::Name;
 use rm_base::refusal::{CapKind, Refusal};
 use rm_base::reply::{End, Reply};
-use rm_base::snapshot::{Condition, RunningSeen, WaitingSeen};
+use rm_base::snapshot::{Condition, Looked, RunningSeen};
 use rm_base::statement::{PoolChange, Size, Statement};
 use rm_base::tables::{Grants, Pools, Roles, Users};
 use std::alloc::Global;
 use std::process::Abort;
 use std::test::Fail;
 
-/// 100 MiB, of which T is 99,614,720 bytes.
+/// 100 MiB.
 const MEMORY: u64 = 104_857_600;
+
+/// 95 percent of it, which is the total.
+const TOTAL: u64 = 99_614_720;
 
 /// GENERAL alone, on 8 cores.
 fn general_alone(alloc: Global) -> Result<Definitions, Fail>
@@ -83,66 +87,65 @@ fn mib(count: u16) -> Size
     Size::Bytes(u64::from(count) * 1_048_576)
 }
 
-/// CREATE RESOURCE POOL with a MEMORYSIZE in MiB.
-fn creates(desk: &mut Desk, ms: u64, pool: Name, size: u16) -> Answered {
-    let change = change(Some(mib(size)), None);
-    desk.apply(
-        0,
-        Moment::of(ms),
-        &Event::Define(Statement::CreatePool(pool, change)),
+/// What is done, in a session or to a pool. Sizes of pools are in MiB, floors in bytes.
+#[derive(Clone, Copy)]
+enum Does {
+    Opens,
+    Chooses(u32, Name),
+    Submits(u32, u64),
+    Polls(u32),
+    Finishes(u32),
+    Creates(Name, u16),
+    Resizes(Name, u16),
+    Limits(Name, u16),
+}
+
+/// Resizes names MEMORYSIZE, Limits names MAXMEMORYSIZE.
+fn event_of(does: Does) -> Event
+    ensures { IsFormed result }
+{
+    match does {
+        Does::Opens => Event::Open {
+            user: Name::dbadmin(),
+        },
+        Does::Chooses(session, pool) => Event::SetPool { session, pool },
+        Does::Submits(session, floor) => Event::Submit { session, floor },
+        Does::Polls(session) => Event::Poll { session },
+        Does::Finishes(session) => Event::Finish { session },
+        Does::Creates(pool, size) => {
+            Event::Define(Statement::CreatePool(pool, change(Some(mib(size)), None)))
+        }
+        Does::Resizes(pool, size) => {
+            Event::Define(Statement::AlterPool(pool, change(Some(mib(size)), None)))
+        }
+        Does::Limits(pool, size) => {
+            Event::Define(Statement::AlterPool(pool, change(None, Some(Some(mib(size))))))
+        }
+    }
+}
+
+/// The moment and what is done, and then the reply, how many entries there are, the first pool's actual size or 0,
+/// and the memory in force.
+type Turn = (u64, Does, Reply, u64, u64, u64);
+
+/// The first pool's actual size, or 0, and the memory in force.
+fn bytes(looked: &Looked) -> (u64, u64) {
+    let actual = looked.snapshot.actual.as_slice();
+    (
+        actual.first().copied().unwrap_or(0),
+        looked.snapshot.in_force,
     )
 }
 
-/// ALTER RESOURCE POOL with a MEMORYSIZE in MiB.
-fn resizes(desk: &mut Desk, ms: u64, pool: Name, size: u16) -> Answered {
-    let change = change(Some(mib(size)), None);
-    desk.apply(
-        0,
-        Moment::of(ms),
-        &Event::Define(Statement::AlterPool(pool, change)),
-    )
-}
-
-/// ALTER RESOURCE POOL with a MAXMEMORYSIZE in MiB.
-fn limits(desk: &mut Desk, ms: u64, pool: Name, size: u16) -> Answered {
-    let change = change(None, Some(Some(mib(size))));
-    desk.apply(
-        0,
-        Moment::of(ms),
-        &Event::Define(Statement::AlterPool(pool, change)),
-    )
-}
-
-fn chooses(desk: &mut Desk, seat: u32, ms: u64, pool: Name) -> Answered {
-    desk.apply(seat, Moment::of(ms), &Event::SetPool { session: 1, pool })
-}
-
-fn polls(desk: &mut Desk, ms: u64, session: u32) -> Answered {
-    desk.apply(0, Moment::of(ms), &Event::Poll { session })
-}
-
-fn finishes(desk: &mut Desk, session: u32) -> Reply {
-    let finish = Event::Finish { session };
-    desk.apply(0, Moment::of(9), &finish).reply
-}
-
-/// The actual sizes of the pools but GENERAL begin with this one.
-fn first_size(alloc: Global, desk: &Desk) -> Result<Option<u64>, Fail> {
-    let looked = desk.look(alloc)?;
-    Ok(looked.snapshot.actual.as_slice().first().copied())
-}
-
-fn in_force(alloc: Global, desk: &Desk) -> Result<u64, Fail> {
-    Ok(desk.look(alloc)?.snapshot.in_force)
-}
-
-fn opens(desk: &mut Desk, ms: u64) -> Reply {
-    let user = Name::dbadmin();
-    desk.apply(0, Moment::of(ms), &Event::Open { user }).reply
-}
-
-fn submits(desk: &mut Desk, session: u32, floor: u64) -> Answered {
-    desk.apply(0, Moment::of(9), &Event::Submit { session, floor })
+fn plays(rt: &impl Abort, alloc: Global, desk: &mut Desk, turns: &[Turn]) -> Result<(), Fail> {
+    for (ms, does, reply, place, size, in_force) in turns {
+        let answered = desk.apply(0, Moment::of(*ms), &event_of(*does));
+        assert_eq!(rt; answered.reply, *reply);
+        assert_eq!(rt; answered.place, *place);
+        let looked = desk.look(alloc)?;
+        assert_eq!(rt; bytes(&looked), (*size, *in_force));
+    }
+    Ok(())
 }
 
 /// What a query of the pool is told that was admitted.
@@ -158,225 +161,446 @@ fn admitted(query: u64, pool: Name, own: u64, borrowed: u64) -> Reply
     }
 }
 
-/// Opens a session for each reply, submits a query in it, and looks for that reply.
-fn submits_in_turn(rt: &impl Abort, desk: &mut Desk, replies: &[Reply])
-    requires { length replies.now < 100 }
-{
-    for (i, reply) in replies.iter().enumerate() {
-        let session = i as u32 + 1;
-        assert_eq!(rt; opens(desk, 5), Reply::Opened(session));
-        assert_eq!(rt; submits(desk, session, 0).reply, *reply);
-    }
-}
-
 #[test]
 fn a_pool_borrows_and_its_queue_waits(rt: HostRuntime) -> Result<(), Fail> {
     let etl = Name::of("etl").ok_or("no name")?;
     let mut desk = Desk::new(rt.alloc(), with_etl(rt.alloc())?, 1_000)?;
-    // After the fourth the pool uses 41,943,040 bytes, and its threshold is 39,845,888.
-    let replies = [
-        admitted(1, etl, 10_485_760, 0),
-        admitted(2, etl, 10_485_760, 0),
-        admitted(3, etl, 0, 10_485_760),
-        admitted(4, etl, 0, 10_485_760),
-        Reply::Waiting { query: 5, place: 1 },
+    // After the fourth the pool uses 41,943,040 bytes, and its threshold is 39,845,888. The place of session 2 is taken
+    // at once: then session 5 runs.
+    let turns = [
+        (5, Does::Opens, Reply::Opened(1), 1, 20_971_520, TOTAL),
+        (
+            5,
+            Does::Submits(1, 0),
+            admitted(1, etl, 10_485_760, 0),
+            2,
+            20_971_520,
+            TOTAL,
+        ),
+        (5, Does::Opens, Reply::Opened(2), 3, 20_971_520, TOTAL),
+        (
+            5,
+            Does::Submits(2, 0),
+            admitted(2, etl, 10_485_760, 0),
+            4,
+            20_971_520,
+            TOTAL,
+        ),
+        (5, Does::Opens, Reply::Opened(3), 5, 20_971_520, TOTAL),
+        (
+            5,
+            Does::Submits(3, 0),
+            admitted(3, etl, 0, 10_485_760),
+            6,
+            20_971_520,
+            TOTAL,
+        ),
+        (5, Does::Opens, Reply::Opened(4), 7, 20_971_520, TOTAL),
+        (
+            5,
+            Does::Submits(4, 0),
+            admitted(4, etl, 0, 10_485_760),
+            8,
+            20_971_520,
+            TOTAL,
+        ),
+        (5, Does::Opens, Reply::Opened(5), 9, 20_971_520, TOTAL),
+        (
+            5,
+            Does::Submits(5, 0),
+            Reply::Waiting { query: 5, place: 1 },
+            10,
+            20_971_520,
+            TOTAL,
+        ),
+        (
+            3,
+            Does::Finishes(2),
+            Reply::Released(10_485_760),
+            11,
+            20_971_520,
+            TOTAL,
+        ),
+        (
+            3,
+            Does::Finishes(5),
+            Reply::Released(10_485_760),
+            12,
+            20_971_520,
+            TOTAL,
+        ),
     ];
-    submits_in_turn(&rt, &mut desk, &replies);
-    // The place of session 2 is taken at once: then session 5 runs.
-    for session in [2, 5] {
-        let finished = desk.apply(0, Moment::of(3), &Event::Finish { session });
-        assert_eq!(rt; finished.reply, Reply::Released(10_485_760));
-    }
-    assert_eq!(rt; desk.entries().len(), 12);
-    Ok(())
-}
-
-#[test]
-fn general_alone_admits_four(rt: HostRuntime) -> Result<(), Fail> {
-    let mut desk = Desk::new(rt.alloc(), general_alone(rt.alloc())?, 1_000)?;
-    let general = Name::general();
-    let replies = [
-        admitted(1, general, 23_658_496, 0),
-        admitted(2, general, 23_658_496, 0),
-        admitted(3, general, 23_658_496, 0),
-        admitted(4, general, 23_658_496, 0),
-        Reply::Waiting { query: 5, place: 1 },
-    ];
-    submits_in_turn(&rt, &mut desk, &replies);
-    Ok(())
+    plays(&rt, rt.alloc(), &mut desk, &turns)
 }
 
 #[test]
 fn a_refusal_makes_no_entry(rt: HostRuntime) -> Result<(), Fail> {
+    let general = Name::general();
+    let x = Name::of("x").ok_or("no name")?;
     let mut desk = Desk::new(rt.alloc(), general_alone(rt.alloc())?, 44)?;
-    assert_eq!(rt; opens(&mut desk, 7), Reply::Opened(1));
-    let other_seat = desk.apply(1, Moment::of(8), &Event::Finish { session: 1 });
-    assert_eq!(rt; other_seat.reply, Reply::Refused(Refusal::NoSuchSession));
-    assert_eq!(rt; other_seat.place, 1);
-    let large = Refusal::TooLarge(CapKind::Pool, 99_614_721, 99_614_720);
-    assert_eq!(rt;
-        submits(&mut desk, 1, 99_614_721).reply,
-        Reply::Refused(large)
-    );
-    assert_eq!(rt; submits(&mut desk, 1, 0).place, 2);
-    assert_eq!(rt;
-        opens(&mut desk, 9),
-        Reply::Refused(Refusal::JournalFull(44))
-    );
+    let turns = [
+        (7, Does::Opens, Reply::Opened(1), 1, 0, TOTAL),
+        (
+            8,
+            Does::Chooses(1, x),
+            Reply::Refused(Refusal::NoSuchPool(x)),
+            1,
+            0,
+            TOTAL,
+        ),
+        (
+            8,
+            Does::Chooses(2, general),
+            Reply::Refused(Refusal::NoSuchSession),
+            1,
+            0,
+            TOTAL,
+        ),
+        (
+            8,
+            Does::Polls(1),
+            Reply::Refused(Refusal::NotLive),
+            1,
+            0,
+            TOTAL,
+        ),
+        (
+            8,
+            Does::Polls(2),
+            Reply::Refused(Refusal::NoSuchSession),
+            1,
+            0,
+            TOTAL,
+        ),
+        (
+            8,
+            Does::Finishes(1),
+            Reply::Refused(Refusal::NotLive),
+            1,
+            0,
+            TOTAL,
+        ),
+        (
+            8,
+            Does::Submits(1, 99_614_721),
+            Reply::Refused(Refusal::TooLarge(CapKind::Pool, 99_614_721, 99_614_720)),
+            1,
+            0,
+            TOTAL,
+        ),
+        (
+            9,
+            Does::Submits(1, 0),
+            admitted(1, general, 23_658_496, 0),
+            2,
+            0,
+            TOTAL,
+        ),
+        (
+            9,
+            Does::Opens,
+            Reply::Refused(Refusal::JournalFull(44)),
+            2,
+            0,
+            TOTAL,
+        ),
+    ];
+    plays(&rt, rt.alloc(), &mut desk, &turns)
+}
+
+#[test]
+fn another_seat_has_no_such_session(rt: HostRuntime) -> Result<(), Fail> {
+    let pool = Name::general();
+    let mut desk = Desk::new(rt.alloc(), general_alone(rt.alloc())?, 1_000)?;
+    let turns = [(7, Does::Opens, Reply::Opened(1), 1, 0, TOTAL)];
+    plays(&rt, rt.alloc(), &mut desk, &turns)?;
+    let events = [
+        Event::SetPool { session: 1, pool },
+        Event::Poll { session: 1 },
+        Event::Finish { session: 1 },
+    ];
+    for event in events {
+        let answered = desk.apply(1, Moment::of(8), &event);
+        assert_eq!(rt; answered.reply, Reply::Refused(Refusal::NoSuchSession));
+        assert_eq!(rt; answered.place, 1);
+    }
     Ok(())
 }
 
-/// The query of this session, that has the session's number, as it is seen.
-fn seen_running(session: u32, pool: Name, own: u64, borrowed: u64) -> RunningSeen {
-    RunningSeen {
-        query: u64::from(session),
-        session,
-        account: Account {
-            pool,
-            own,
-            borrowed,
-        },
-        start: Moment::of(9),
-        moves: 0,
-    }
+#[test]
+fn pools_are_created_and_resized(rt: HostRuntime) -> Result<(), Fail> {
+    let r = Name::of("r").ok_or("no name")?;
+    let x = Name::of("x").ok_or("no name")?;
+    let mut desk = Desk::new(rt.alloc(), general_alone(rt.alloc())?, 1_000)?;
+    // Of 99,614,720 bytes the two pools would leave 5,242,880, and a quarter is 24,903,680.
+    let small = Refusal::GeneralTooSmall(5_242_880, 24_903_680);
+    let turns = [
+        (
+            3,
+            Does::Creates(r, 20),
+            Reply::Defined,
+            1,
+            20_971_520,
+            TOTAL,
+        ),
+        (
+            4,
+            Does::Resizes(r, 30),
+            Reply::Defined,
+            2,
+            31_457_280,
+            TOTAL,
+        ),
+        (
+            5,
+            Does::Resizes(r, 10),
+            Reply::Defined,
+            3,
+            10_485_760,
+            TOTAL,
+        ),
+        (
+            6,
+            Does::Resizes(r, 10),
+            Reply::Defined,
+            4,
+            10_485_760,
+            TOTAL,
+        ),
+        (
+            7,
+            Does::Creates(r, 20),
+            Reply::Refused(Refusal::NameTaken),
+            4,
+            10_485_760,
+            TOTAL,
+        ),
+        (
+            7,
+            Does::Resizes(x, 20),
+            Reply::Refused(Refusal::NoSuchPool(x)),
+            4,
+            10_485_760,
+            TOTAL,
+        ),
+        (
+            7,
+            Does::Creates(x, 80),
+            Reply::Refused(small),
+            4,
+            10_485_760,
+            TOTAL,
+        ),
+    ];
+    plays(&rt, rt.alloc(), &mut desk, &turns)?;
+    assert_eq!(rt; desk.definitions().pools.rows().len(), 2);
+    Ok(())
+}
+
+#[test]
+fn what_changes_nothing_leaves_the_clock(rt: HostRuntime) -> Result<(), Fail> {
+    let general = Name::general();
+    let mut desk = Desk::new(rt.alloc(), general_alone(rt.alloc())?, 1_000)?;
+    let runs = admitted(1, general, 23_658_496, 0);
+    let turns = [
+        (5, Does::Opens, Reply::Opened(1), 1, 0, TOTAL),
+        (6, Does::Submits(1, 0), runs, 2, 0, TOTAL),
+        (9, Does::Chooses(1, general), Reply::Set, 3, 0, TOTAL),
+        (100, Does::Polls(1), runs, 3, 0, TOTAL),
+        (100, Does::Chooses(1, general), Reply::Set, 3, 0, TOTAL),
+        (
+            100,
+            Does::Creates(general, 1),
+            Reply::Refused(Refusal::NameTaken),
+            3,
+            0,
+            TOTAL,
+        ),
+        (
+            8,
+            Does::Finishes(1),
+            Reply::Released(23_658_496),
+            4,
+            0,
+            TOTAL,
+        ),
+    ];
+    plays(&rt, rt.alloc(), &mut desk, &turns)?;
+    assert_eq!(rt; desk.entries().last().map(|e| e.at), Some(Moment::of(9)));
+    Ok(())
 }
 
 /// GENERAL of 80 MiB, in which four queries run.
 fn with_four(rt: &impl Abort, alloc: Global) -> Result<Desk, Fail> {
     let general = Name::general();
     let mut desk = Desk::new(alloc, general_alone(alloc)?, 1_000)?;
-    assert_eq!(rt; limits(&mut desk, 1, general, 80).reply, Reply::Defined);
-    let admissions = [
-        admitted(1, general, 19_922_944, 0),
-        admitted(2, general, 19_922_944, 0),
-        admitted(3, general, 19_922_944, 0),
-        admitted(4, general, 19_922_944, 0),
+    let turns = [
+        (
+            1,
+            Does::Limits(general, 80),
+            Reply::Defined,
+            1,
+            0,
+            83_886_080,
+        ),
+        (5, Does::Opens, Reply::Opened(1), 2, 0, 83_886_080),
+        (
+            5,
+            Does::Submits(1, 0),
+            admitted(1, general, 19_922_944, 0),
+            3,
+            0,
+            83_886_080,
+        ),
+        (5, Does::Opens, Reply::Opened(2), 4, 0, 83_886_080),
+        (
+            5,
+            Does::Submits(2, 0),
+            admitted(2, general, 19_922_944, 0),
+            5,
+            0,
+            83_886_080,
+        ),
+        (5, Does::Opens, Reply::Opened(3), 6, 0, 83_886_080),
+        (
+            5,
+            Does::Submits(3, 0),
+            admitted(3, general, 19_922_944, 0),
+            7,
+            0,
+            83_886_080,
+        ),
+        (5, Does::Opens, Reply::Opened(4), 8, 0, 83_886_080),
+        (
+            5,
+            Does::Submits(4, 0),
+            admitted(4, general, 19_922_944, 0),
+            9,
+            0,
+            83_886_080,
+        ),
     ];
-    submits_in_turn(rt, &mut desk, &admissions);
+    plays(rt, alloc, &mut desk, &turns)?;
     Ok(desk)
-}
-
-#[test]
-fn pools_are_created_and_resized(rt: HostRuntime) -> Result<(), Fail> {
-    let r = Name::of("r").ok_or("no name")?;
-    let mut desk = Desk::new(rt.alloc(), general_alone(rt.alloc())?, 1_000)?;
-    assert_eq!(rt; creates(&mut desk, 3, r, 20).reply, Reply::Defined);
-    assert_eq!(rt; first_size(rt.alloc(), &desk)?, Some(20_971_520));
-    for (size, actual) in [(30, 31_457_280), (10, 10_485_760), (10, 10_485_760)] {
-        assert_eq!(rt; resizes(&mut desk, 4, r, size).reply, Reply::Defined);
-        assert_eq!(rt; first_size(rt.alloc(), &desk)?, Some(actual));
-    }
-    assert_eq!(rt; desk.entries().len(), 4);
-    Ok(())
-}
-
-#[test]
-fn a_refused_statement_changes_nothing(rt: HostRuntime) -> Result<(), Fail> {
-    let r = Name::of("r").ok_or("no name")?;
-    let x = Name::of("x").ok_or("no name")?;
-    let mut desk = Desk::new(rt.alloc(), general_alone(rt.alloc())?, 1_000)?;
-    assert_eq!(rt; creates(&mut desk, 3, r, 10).place, 1);
-    // Of 99,614,720 bytes the two pools would leave 5,242,880, and a quarter is 24,903,680.
-    let small = Refusal::GeneralTooSmall(5_242_880, 24_903_680);
-    let refused = [
-        (creates(&mut desk, 100, r, 20), Refusal::NameTaken),
-        (resizes(&mut desk, 100, x, 20), Refusal::NoSuchPool(x)),
-        (creates(&mut desk, 100, x, 80), small),
-    ];
-    for (answered, refusal) in refused {
-        assert_eq!(rt; answered.reply, Reply::Refused(refusal));
-        assert!(rt; !answered.entry);
-        assert_eq!(rt; answered.place, 1);
-    }
-    assert_eq!(rt; desk.definitions().pools.rows().len(), 2);
-    assert_eq!(rt; opens(&mut desk, 7), Reply::Opened(1));
-    assert_eq!(rt; desk.entries().len(), 2);
-    assert_eq!(rt; desk.entries()[1].at, Moment::of(7));
-    Ok(())
-}
-
-#[test]
-fn what_changes_nothing_makes_no_entry(rt: HostRuntime) -> Result<(), Fail> {
-    let general = Name::general();
-    let mut desk = Desk::new(rt.alloc(), general_alone(rt.alloc())?, 1_000)?;
-    assert_eq!(rt; opens(&mut desk, 5), Reply::Opened(1));
-    assert_eq!(rt; submits(&mut desk, 1, 0).place, 2);
-    assert_eq!(rt; chooses(&mut desk, 0, 9, general).place, 3);
-    let quiet = [
-        (
-            polls(&mut desk, 100, 1),
-            admitted(1, general, 23_658_496, 0),
-        ),
-        (chooses(&mut desk, 0, 100, general), Reply::Set),
-    ];
-    for (answered, reply) in quiet {
-        assert_eq!(rt; answered.reply, reply);
-        assert!(rt; !answered.entry);
-        assert_eq!(rt; answered.place, 3);
-    }
-    assert_eq!(rt; finishes(&mut desk, 1), Reply::Released(23_658_496));
-    assert_eq!(rt; desk.entries().len(), 4);
-    assert_eq!(rt; desk.entries()[3].at, Moment::of(9));
-    Ok(())
-}
-
-#[test]
-fn choices_are_refused(rt: HostRuntime) -> Result<(), Fail> {
-    let x = Name::of("x").ok_or("no name")?;
-    let mut desk = Desk::new(rt.alloc(), general_alone(rt.alloc())?, 1_000)?;
-    assert_eq!(rt; opens(&mut desk, 5), Reply::Opened(1));
-    let refused = [
-        (
-            chooses(&mut desk, 1, 6, Name::general()),
-            Refusal::NoSuchSession,
-        ),
-        (chooses(&mut desk, 0, 6, x), Refusal::NoSuchPool(x)),
-        (polls(&mut desk, 6, 1), Refusal::NotLive),
-        (polls(&mut desk, 6, 2), Refusal::NoSuchSession),
-    ];
-    for (answered, refusal) in refused {
-        assert_eq!(rt; answered.reply, Reply::Refused(refusal));
-        assert_eq!(rt; answered.place, 1);
-    }
-    Ok(())
 }
 
 #[test]
 fn a_pool_grows_as_bytes_come_free(rt: HostRuntime) -> Result<(), Fail> {
     let r = Name::of("r").ok_or("no name")?;
     let mut desk = with_four(&rt, rt.alloc())?;
-    assert_eq!(rt; creates(&mut desk, 9, r, 30).reply, Reply::Defined);
-    assert_eq!(rt; first_size(rt.alloc(), &desk)?, Some(4_194_304));
-    for (session, actual) in [(1, 24_117_248), (2, 31_457_280)] {
-        assert_eq!(rt; finishes(&mut desk, session), Reply::Released(19_922_944));
-        assert_eq!(rt; first_size(rt.alloc(), &desk)?, Some(actual));
-    }
-    Ok(())
+    let turns = [
+        (
+            9,
+            Does::Creates(r, 30),
+            Reply::Defined,
+            10,
+            4_194_304,
+            83_886_080,
+        ),
+        (
+            9,
+            Does::Finishes(1),
+            Reply::Released(19_922_944),
+            11,
+            24_117_248,
+            83_886_080,
+        ),
+        (
+            9,
+            Does::Finishes(2),
+            Reply::Released(19_922_944),
+            12,
+            31_457_280,
+            83_886_080,
+        ),
+    ];
+    plays(&rt, rt.alloc(), &mut desk, &turns)
 }
 
 #[test]
 fn the_memory_in_force_falls_as_queries_end(rt: HostRuntime) -> Result<(), Fail> {
+    let general = Name::general();
     let mut desk = with_four(&rt, rt.alloc())?;
-    let lowered = limits(&mut desk, 9, Name::general(), 30);
-    assert_eq!(rt; lowered.reply, Reply::Defined);
-    assert_eq!(rt; in_force(rt.alloc(), &desk)?, 79_691_776);
-    for (session, bytes) in [(1, 59_768_832), (2, 39_845_888), (3, 31_457_280)] {
-        assert_eq!(rt; finishes(&mut desk, session), Reply::Released(19_922_944));
-        assert_eq!(rt; in_force(rt.alloc(), &desk)?, bytes);
-    }
-    Ok(())
+    let turns = [
+        (
+            9,
+            Does::Limits(general, 30),
+            Reply::Defined,
+            10,
+            0,
+            79_691_776,
+        ),
+        (
+            9,
+            Does::Finishes(1),
+            Reply::Released(19_922_944),
+            11,
+            0,
+            59_768_832,
+        ),
+        (
+            9,
+            Does::Finishes(2),
+            Reply::Released(19_922_944),
+            12,
+            0,
+            39_845_888,
+        ),
+        (
+            9,
+            Does::Finishes(3),
+            Reply::Released(19_922_944),
+            13,
+            0,
+            31_457_280,
+        ),
+    ];
+    plays(&rt, rt.alloc(), &mut desk, &turns)
 }
 
 #[test]
 fn a_query_that_became_too_large_ends(rt: HostRuntime) -> Result<(), Fail> {
     let general = Name::general();
     let mut desk = with_four(&rt, rt.alloc())?;
-    assert_eq!(rt; opens(&mut desk, 9), Reply::Opened(5));
-    let waiting = Reply::Waiting { query: 5, place: 1 };
-    assert_eq!(rt; submits(&mut desk, 5, 62_914_560).reply, waiting);
-    assert_eq!(rt; limits(&mut desk, 9, general, 50).reply, Reply::Defined);
+    let end = End::TooLarge(CapKind::Pool, 62_914_560, 52_428_800);
+    let turns = [
+        (9, Does::Opens, Reply::Opened(5), 10, 0, 83_886_080),
+        (
+            9,
+            Does::Submits(5, 62_914_560),
+            Reply::Waiting { query: 5, place: 1 },
+            11,
+            0,
+            83_886_080,
+        ),
+        (
+            9,
+            Does::Limits(general, 50),
+            Reply::Defined,
+            12,
+            0,
+            79_691_776,
+        ),
+        (9, Does::Polls(5), Reply::Ended(end), 13, 0, 79_691_776),
+        (
+            9,
+            Does::Polls(5),
+            Reply::Refused(Refusal::NotLive),
+            13,
+            0,
+            79_691_776,
+        ),
+        (
+            9,
+            Does::Submits(5, 0),
+            Reply::Waiting { query: 6, place: 1 },
+            14,
+            0,
+            79_691_776,
+        ),
+    ];
+    plays(&rt, rt.alloc(), &mut desk, &turns)?;
     let looked = desk.look(rt.alloc())?;
-    assert_eq!(rt; looked.snapshot.waiting.as_slice().len(), 0);
     assert_eq!(rt;
         looked
             .snapshot
@@ -386,59 +610,72 @@ fn a_query_that_became_too_large_ends(rt: HostRuntime) -> Result<(), Fail> {
             .map(|c| c.toolarge),
         Some(1)
     );
-    let end = End::TooLarge(CapKind::Pool, 62_914_560, 52_428_800);
-    let collected = polls(&mut desk, 9, 5);
-    assert_eq!(rt; collected.reply, Reply::Ended(end));
-    assert!(rt; collected.entry);
-    assert_eq!(rt;
-        polls(&mut desk, 9, 5).reply,
-        Reply::Refused(Refusal::NotLive)
-    );
-    assert_eq!(rt;
-        submits(&mut desk, 5, 0).reply,
-        Reply::Waiting { query: 6, place: 1 }
-    );
     Ok(())
+}
+
+/// The query of this session, which has the session's number, as it is seen to run.
+fn seen(session: u32, pool: Name, own: u64, borrowed: u64) -> RunningSeen {
+    let account = Account {
+        pool,
+        own,
+        borrowed,
+    };
+    RunningSeen {
+        query: u64::from(session),
+        session,
+        account,
+        start: Moment::of(9),
+        moves: 0,
+    }
 }
 
 #[test]
 fn a_look_shows_queries_in_their_orders(rt: HostRuntime) -> Result<(), Fail> {
     let etl = Name::of("etl").ok_or("no name")?;
     let mut desk = Desk::new(rt.alloc(), with_etl(rt.alloc())?, 1_000)?;
-    let replies = [
-        admitted(1, etl, 20_971_520, 0),
-        admitted(2, etl, 0, 20_971_520),
-        Reply::Waiting { query: 3, place: 1 },
+    let turns = [
+        (5, Does::Opens, Reply::Opened(1), 1, 20_971_520, TOTAL),
+        (
+            9,
+            Does::Submits(1, 20_971_520),
+            admitted(1, etl, 20_971_520, 0),
+            2,
+            20_971_520,
+            TOTAL,
+        ),
+        (9, Does::Opens, Reply::Opened(2), 3, 20_971_520, TOTAL),
+        (
+            9,
+            Does::Submits(2, 20_971_520),
+            admitted(2, etl, 0, 20_971_520),
+            4,
+            20_971_520,
+            TOTAL,
+        ),
+        (9, Does::Opens, Reply::Opened(3), 5, 20_971_520, TOTAL),
+        (
+            9,
+            Does::Submits(3, 0),
+            Reply::Waiting { query: 3, place: 1 },
+            6,
+            20_971_520,
+            TOTAL,
+        ),
+        (9, Does::Opens, Reply::Opened(4), 7, 20_971_520, TOTAL),
     ];
-    for (i, reply) in replies.iter().enumerate() {
-        let session = i as u32 + 1;
-        assert_eq!(rt; opens(&mut desk, 5), Reply::Opened(session));
-        assert_eq!(rt; submits(&mut desk, session, 20_971_520).reply, *reply);
-    }
-    assert_eq!(rt; opens(&mut desk, 9), Reply::Opened(4));
+    plays(&rt, rt.alloc(), &mut desk, &turns)?;
     let looked = desk.look(rt.alloc())?;
-    assert_eq!(rt; looked.place, 7);
-    let running = [
-        seen_running(1, etl, 20_971_520, 0),
-        seen_running(2, etl, 0, 20_971_520),
-    ];
-    assert!(rt; looked.snapshot.running.as_slice() == running.as_slice());
-    let waits = [WaitingSeen {
-        query: 3,
-        session: 3,
-        pool: etl,
-        queued: Moment::of(9),
-    }];
-    assert!(rt; looked.snapshot.waiting.as_slice() == waits.as_slice());
+    let runs = [seen(1, etl, 20_971_520, 0), seen(2, etl, 0, 20_971_520)];
+    assert!(rt; looked.snapshot.running.as_slice() == runs.as_slice());
+    let waiting = looked.snapshot.waiting.as_slice();
+    assert!(rt; waiting.iter().map(|w| w.query).eq([3]));
     let conditions = [
         Condition::Running,
         Condition::Running,
         Condition::Waiting,
         Condition::Idle,
     ];
-    for (seen, condition) in looked.snapshot.sessions.as_slice().iter().zip(conditions) {
-        assert_eq!(rt; seen.condition, condition);
-        assert_eq!(rt; seen.pool, etl);
-    }
+    let sessions = looked.snapshot.sessions.as_slice();
+    assert!(rt; sessions.iter().map(|x| x.condition).eq(conditions));
     Ok(())
 }
