@@ -150,7 +150,7 @@ fn grows_by_what_is_free(rt: HostRuntime) -> Result<(), Fail> {
     take_four(&mut accounts)?;
     assert_eq!(rt; general_of(&accounts), [83_886_080, 79_691_776, 4_194_304]);
     accounts.add_pool(r);
-    assert_eq!(rt; accounts.actual(r), 0);
+    assert!(rt; accounts.sizes() == [0].as_slice());
     accounts.shuffle(&beside_r);
     assert_eq!(rt; accounts.actual(r), 4_194_304);
     assert_eq!(rt;

@@ -1,5 +1,5 @@
 -- The running queries as they are seen, one after the other, and the place of one among them.
-use Rattle.std.proofs.Common.{◌≡◌, ◌<◌, ℕ, suc, ◌+◌, Bool, true, false, not, cond, List, [], ◌∷◌, ◌++◌, length, Some, None, Option, get_or, take, drop, map, refl, sym, ap, ◌∙◌, append_assoc, take_while, take-append-drop, arith}
+use Rattle.std.proofs.Common.{◌≡◌, ◌<◌, ℕ, suc, ◌+◌, Bool, true, false, not, cond, List, [], ◌∷◌, ◌++◌, length, Some, None, get_or, take, drop, map, sym, ap, ◌∙◌, append_assoc, take_while, take-append-drop, arith}
 use Rattle.std.specs.List.{find, zip, prefix_len}
 use Rattle.std.proofs.lemmas.List.{drop_more, take_more}
 use Rattle.rm_base.specs.declared.snapshot.RunningSeen.{RunningSeen}

@@ -1,5 +1,5 @@
 -- The journal has room for the entry of an event that changed something.
-use Rattle.std.proofs.Common.{◌≡◌, ◌<◌, ◌+◌, Bool, false, cond, ℕ, length, refl, ap, sym, subst, arith}
+use Rattle.std.proofs.Common.{◌≡◌, ◌<◌, ◌+◌, Bool, false, cond, length, refl, ap, sym, subst, arith}
 use Rattle.rm_base.specs.declared.limits.TheConstants.{CHANGES_MOST}
 use Rattle.rm_rules.specs.State.{State, counted_entries, is_defined}
 use Rattle.rm_rules.specs.Settle.{settled}

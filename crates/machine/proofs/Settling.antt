@@ -8,7 +8,6 @@ use Rattle.std.proofs.lemmas.Bool.Decides.{nat_tests}
 use Rattle.std.proofs.lemmas.List.Sums.{count_by-le-length, sum_by-cons}
 use Rattle.rm_base.specs.declared.limits.TheConstants.{SESSIONS_MOST}
 use Rattle.rm_base.specs.declared.refusal.CapKind.{CapKind}
-use Rattle.rm_base.specs.declared.refusal.Refusal.{Refusal}
 use Rattle.rm_base.specs.declared.refusal.Refusal.TheVariants as refusal
 use Rattle.rm_base.specs.declared.reply.End.{End}
 use Rattle.rm_base.specs.declared.reply.End.TheVariants as end

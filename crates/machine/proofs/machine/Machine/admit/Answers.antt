@@ -1,4 +1,4 @@
-use Rattle.std.proofs.Common.{◌≡◌, ◌∙◌, ap, sym, subst, ℕ, arith, nat_eq}
+use Rattle.std.proofs.Common.{◌∙◌, ap, sym, arith, nat_eq}
 use Rattle.rm_rules.specs.declared.state.Runner.{Runner}
 use Rattle.rm_rules.specs.Admission.{need}
 use Rattle.accounts.proofs.Standing.{pools-stand, queries-stand, free-stands, need-stands}

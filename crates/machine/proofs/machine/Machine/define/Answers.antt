@@ -3,7 +3,7 @@ use Rattle.rm_base.specs.declared.name.Name.{Name}
 use Rattle.rm_base.specs.declared.rows.PoolRow.{PoolRow}
 use Rattle.rm_rules.specs.State.{State}
 use Rattle.rm_rules.specs.Acceptance.{accepted}
-use Rattle.accounts.specs.Accounts.{AccountsState, as_grant, names_in}
+use Rattle.accounts.specs.Accounts.{AccountsState}
 use Rattle.accounts.proofs.Standing.{pools-stand}
 use Rattle.machine.specs.Capacity.{seen}
 use Rattle.machine.proofs.Adding.{added, altered, names-count}

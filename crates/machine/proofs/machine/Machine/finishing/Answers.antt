@@ -1,8 +1,8 @@
-use Rattle.std.proofs.Common.{◌≡◌, ◌∙◌, ap, sym, subst, ℕ, List, Some, arith, map, nat_eq}
+use Rattle.std.proofs.Common.{◌≡◌, ◌∙◌, ap, sym, subst, List, arith, map, nat_eq}
 use Rattle.std.specs.List.{find}
 use Rattle.rm_rules.specs.declared.state.Runner.{Runner}
 use Rattle.rm_rules.specs.State.{State, without_runner}
-use Rattle.accounts.specs.Accounts.{AccountsState, as_grant, names_in, given_back}
+use Rattle.accounts.specs.Accounts.{AccountsState, as_grant, names_in}
 use Rattle.accounts.proofs.Standing.{given-stands}
 use Rattle.machine.proofs.Seen.{stands_inside}
 use Rattle.machine.proofs.machine.Machine.finishing.Goals as goal
