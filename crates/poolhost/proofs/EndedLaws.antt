@@ -1,7 +1,7 @@
 -- What each end of a script says of its status and of what was written.
-use Rattle.std.proofs.Common.{◌≡◌, ◌≢◌, ◌↔◌, ◌⊎◌, inl, inr, ℕ, ◌+◌, ◌≤◌, ◌<◌, Bool, true, false, cond, ltb, List, [], ◌∷◌, ◌++◌, length, Option, Some, None, refl, sym, ap, ◌∙◌, subst, arith, append-nil, length-append}
+use Rattle.std.proofs.Common.{◌≡◌, ◌≢◌, ◌↔◌, ◌⊎◌, inl, inr, ℕ, ◌≤◌, ◌<◌, true, cond, ltb, List, [], length, Option, Some, None, refl, sym, ap, ◌∙◌, subst, arith, append-nil, length-append}
 use Rattle.std.specs.Option.{IsSome, IfSome}
-use Rattle.std.specs.Io.KnownBytes.{Appends, Consumes, Keeps, IsAtEnd}
+use Rattle.std.specs.Io.KnownBytes.{Appends, Keeps}
 use Rattle.std.proofs.lemmas.Bool.{false≢true}
 use Rattle.std.proofs.lemmas.Bool.Decides.{nat_tests}
 use Rattle.rm_base.specs.declared.limits.TheConstants.{SCRIPT_MOST}
@@ -13,7 +13,7 @@ use Rattle.poolhost.specs.declared.status.TheConstants.{DONE, USAGE, BAD_LINE, R
 use Rattle.poolhost.specs.Ended.{Streams, status_of, WroteWhole, WrotePart, EndsAs}
 use Rattle.std.specs.Str.Lines.{lines}
 use Rattle.poolhost.specs.Script.{ScriptEnd, no_script, script_with, script_start, lines_end}
-use Rattle.poolhost.specs.Transfers.{IsTooLong, IsWholeInput, WroteFront}
+use Rattle.poolhost.specs.Transfers.{IsTooLong}
 
 -- what holds of the value, if there is one
 if_some : {A : Type 0} (o : Option A) (P : A → Type 0) → ((x : A) → o ≡ Some x → P x) → IfSome o P

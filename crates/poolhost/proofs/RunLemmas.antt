@@ -1,26 +1,23 @@
 -- How a script's lines run and end.
-use Rattle.std.proofs.Common.{◌≡◌, ℕ, ◌+◌, ◌-◌, ◌^◌, ◌≤◌, ◌<◌, Bool, true, false, cond, ltb, List, [], ◌∷◌, ◌++◌, length, Option, Some, None, Result, Ok, Err, refl, sym, ap, ◌∙◌, subst, arith, append_assoc, append-nil, string_bytes}
-use Rattle.std.specs.Prelude.{OnOk, IfErr, IfOk, IfSome, IfNone}
-use Rattle.std.specs.Io.KnownBytes.{Appends, Consumes, Keeps, IsAtEnd}
-use Rattle.std.proofs.KnownBytes.{Appends-trans, Appends-nil, Keeps-refl}
+use Rattle.std.proofs.Common.{◌≡◌, ℕ, ◌+◌, ◌≤◌, false, cond, ltb, List, [], ◌∷◌, ◌++◌, length, Option, Some, None, Result, Ok, Err, refl, sym, ap, ◌∙◌, subst, arith, append_assoc, append-nil}
+use Rattle.std.specs.Prelude.{OnOk, IfErr, IfSome, IfNone}
+use Rattle.std.specs.Io.KnownBytes.{Appends, Keeps}
+use Rattle.std.proofs.KnownBytes.{Appends-trans, Appends-nil}
 use Rattle.std.specs.Str.Lines.{lines}
 use Rattle.std.proofs.lemmas.Bool.Decides.{nat_tests}
 use Rattle.rm_base.specs.declared.limits.TheConstants.{SCRIPT_MOST}
 use Rattle.rm_outside.specs.declared.outside.Outside.{Outside}
 use Rattle.rm_outside.specs.declared.outside.Outside.TheVariants as outside
-use Rattle.rm_outside.specs.Faults.{Rose}
 use Rattle.poolhost.specs.declared.ended.LinesEnd.{LinesEnd}
 use Rattle.poolhost.specs.declared.ended.LinesEnd.TheVariants as end
 use Rattle.poolhost.specs.declared.input.InputError.{InputError}
 use Rattle.poolhost.specs.declared.input.InputError.TheVariants as input
 use Rattle.poolhost.specs.declared.names.TheConstants.{LINES_MOST}
 use Rattle.poolhost.specs.declared.options.Options.{Options}
-use Rattle.poolhost.specs.declared.script.Turned.{Turned}
-use Rattle.poolhost.specs.declared.script.Turned.TheVariants as turned
-use Rattle.poolhost.specs.declared.status.TheConstants.{DONE, BAD_LINE, TOO_LONG}
+use Rattle.poolhost.specs.declared.status.TheConstants.{BAD_LINE, TOO_LONG}
 use Rattle.poolhost.specs.Ended.{Streams, ended_as, input_end, EndsAs}
-use Rattle.poolhost.specs.Script.{ScriptState, Turn, Bad, Goes, ScriptEnd, no_script, script_start, script_with, after_text, turn_end, line_turn, lines_end}
-use Rattle.poolhost.specs.Scripts.{LinesEnded, stopped_by, bad_line_end, stop_after, WentOn, EndedAt, seen_turn, IsEarly}
+use Rattle.poolhost.specs.Script.{ScriptState, Bad, Goes, ScriptEnd, no_script, script_start, script_with, after_text, turn_end, line_turn, lines_end}
+use Rattle.poolhost.specs.Scripts.{LinesEnded, stopped_by, bad_line_end, stop_after, WentOn, EndedAt}
 use Rattle.poolhost.specs.Texts.{bad_text}
 use Rattle.poolhost.specs.Transfers.{IsWholeInput, ExplainsInput, WroteFront, ExplainsOutput}
 

@@ -1,6 +1,5 @@
 -- A script's journal is one legal history of the machine, and the quantity is conserved after each of its entries.
-use Rattle.std.proofs.Common.{◌≡◌, ℕ, ◌+◌, ◌-◌, ◌≤◌, ◌<◌, take, Bool, true, false, cond, eqb, leb, ltb, List, [], ◌∷◌, ◌++◌, length, Option, Some, None, Result, Ok, Err, refl, sym, ap, ◌∙◌, subst, arith, append_assoc}
-use Rattle.std.proofs.lemmas.Bool.{false≢true}
+use Rattle.std.proofs.Common.{◌≡◌, ℕ, ◌+◌, ◌-◌, ◌≤◌, ◌<◌, take, Bool, true, false, cond, eqb, leb, ltb, List, [], ◌∷◌, length, Option, Some, None, Result, Ok, Err, refl, sym, subst, arith}
 use Rattle.std.proofs.lemmas.Bool.Decides.{nat_tests}
 use Rattle.pool_sql.specs.Reading.{read_of}
 use Rattle.pool_sql.proofs.Texts.{read_of-in_range}
@@ -20,7 +19,7 @@ use Rattle.rm_base.specs.declared.reply.Reply.TheVariants as reply
 use Rattle.rm_base.specs.declared.statement.Statement.{Statement}
 use Rattle.rm_base.specs.Definitions.{fresh}
 use Rattle.rm_base.specs.Ranges.{is_statement_in_range}
-use Rattle.rm_rules.specs.State.{State, start}
+use Rattle.rm_rules.specs.State.{State}
 use Rattle.rm_rules.specs.Acceptance.{accepted, is_pool_statement}
 use Rattle.rm_rules.specs.Step.{step, replay, IsFormed, IsLegal}
 use Rattle.rm_rules.specs.Conserved.{ConservedAfterEach}
@@ -30,7 +29,7 @@ use Rattle.poolhost.specs.Commands.{Command, Sql, Open, SetPool, Ask, Poll, Done
 use Rattle.poolhost.specs.Numbers.{below, at_least, in_range, value_of}
 use Rattle.poolhost.specs.Options.{unit_of, times, memory_of, cores_of, both_options, values_in, options_of}
 use Rattle.poolhost.specs.OptionsFacts.{AreWithin}
-use Rattle.poolhost.specs.Script.{ScriptState, Turn, Bad, Goes, judged_turn, read_turn, with_name, chosen_turn, opened_turn, opening_turn, set_pool_turn, ask_turn, poll_turn, done_turn, turn, command_turn, line_turn, is_comment, ScriptEnd, after_text, turn_end, lines_end, no_script, script_start, script_with, script, IsOneHistory}
+use Rattle.poolhost.specs.Script.{ScriptState, Turn, Bad, Goes, judged_turn, read_turn, with_name, chosen_turn, opened_turn, opening_turn, set_pool_turn, ask_turn, poll_turn, done_turn, turn, command_turn, line_turn, is_comment, ScriptEnd, turn_end, lines_end, no_script, script_start, script_with, script, IsOneHistory}
 use Rattle.poolhost.specs.SessionNames.{session_named}
 
 -- a fact of the machine that a turn leaves, where it leaves one

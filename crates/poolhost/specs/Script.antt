@@ -1,5 +1,5 @@
 -- A script as a function from bytes to bytes.
-use Rattle.std.specs.Prelude.{◌≡◌, ℕ, ◌+◌, Bool, true, false, ◌&&◌, ◌||◌, ◌==◌, not, nat_lt, nat_le, List, [], ◌∷◌, ◌++◌, length, Option, Some, None, is_some, Result, Ok, Err, if◌then◌else◌}
+use Rattle.std.specs.Prelude.{ℕ, ◌+◌, Bool, true, ◌||◌, ◌==◌, not, nat_lt, nat_le, List, [], ◌∷◌, ◌++◌, length, Option, Some, None, is_some, Result, Ok, Err, if◌then◌else◌}
 use Rattle.std.specs.Str.Lines.{lines}
 use Rattle.rm_base.specs.declared.limits.TheConstants.{SESSIONS_MOST, SCRIPT_ROOM, SCRIPT_MOST}
 use Rattle.rm_base.specs.declared.definitions.Definitions.{Definitions}

@@ -1,6 +1,6 @@
 -- A script that runs, and what its runs leave.
-use Rattle.std.specs.Prelude.{Result, Ok, Err, ◌≡◌, ◌≢◌, ℕ, ◌<◌, ◌≤◌, List, [], ◌∷◌, ◌++◌, length, Option, Some, None, IsSome, IfSome, string_bytes}
-use Rattle.std.specs.Io.KnownBytes.{Appends, Keeps}
+use Rattle.std.specs.Prelude.{Result, Ok, Err, ◌≡◌, ℕ, ◌≤◌, List, Option, Some, None, string_bytes}
+use Rattle.std.specs.Io.KnownBytes.{Appends}
 use Rattle.rm_outside.specs.declared.outside.Outside.{Outside}
 use Rattle.rm_outside.specs.declared.outside.Outside.TheVariants as outside
 use Rattle.rm_outside.specs.Faults.{Rose}

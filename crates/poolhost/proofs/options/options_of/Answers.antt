@@ -1,4 +1,4 @@
-use Rattle.std.proofs.Common.{◌≡◌, List, ℕ, Option, Some, None, map, string_bytes, sym, ◌∙◌}
+use Rattle.std.proofs.Common.{◌≡◌, List, ℕ, Option, Some, None, map, string_bytes, sym}
 use Rattle.std.specs.Option.{IfSome}
 use Rattle.poolhost.specs.declared.options.Options.{Options}
 use Rattle.poolhost.specs.Options.{options_of}
