@@ -11,7 +11,7 @@ use rm_base::moment::Moment;
 use rm_base::name::Name;
 use rm_base::refusal::{CapKind, Refusal};
 use rm_base::reply::{End, Reply};
-use rm_base::snapshot::{Condition, Looked, RunningSeen};
+use rm_base::snapshot::{Condition, Looked, RunningSeen, Snapshot};
 use rm_base::statement::{PoolChange, Size, Statement};
 use rm_base::tables::{Grants, Pools, Roles, Users};
 use std::alloc::Global;
@@ -308,22 +308,23 @@ fn a_refusal_makes_no_entry(rt: HostRuntime) -> Result<(), Fail> {
     plays(&rt, rt.alloc(), &mut desk, &turns)
 }
 
+/// Another seat tries each, in vain.
+fn has_no_session(rt: &impl Abort, desk: &mut Desk, tries: &[Does]) {
+    for does in tries {
+        let answered = desk.apply(1, Moment::of(8), &event_of(*does));
+        assert_eq!(rt; answered.reply, Reply::Refused(Refusal::NoSuchSession));
+        assert_eq!(rt; answered.place, 1);
+    }
+}
+
 #[test]
 fn another_seat_has_no_such_session(rt: HostRuntime) -> Result<(), Fail> {
     let pool = Name::general();
     let mut desk = Desk::new(rt.alloc(), general_alone(rt.alloc())?, 1_000)?;
     let turns = [(7, Does::Opens, Reply::Opened(1), 1, 0, TOTAL)];
     plays(&rt, rt.alloc(), &mut desk, &turns)?;
-    let events = [
-        Event::SetPool { session: 1, pool },
-        Event::Poll { session: 1 },
-        Event::Finish { session: 1 },
-    ];
-    for event in events {
-        let answered = desk.apply(1, Moment::of(8), &event);
-        assert_eq!(rt; answered.reply, Reply::Refused(Refusal::NoSuchSession));
-        assert_eq!(rt; answered.place, 1);
-    }
+    let tries = [Does::Chooses(1, pool), Does::Polls(1), Does::Finishes(1)];
+    has_no_session(&rt, &mut desk, &tries);
     Ok(())
 }
 
@@ -558,6 +559,13 @@ fn the_memory_in_force_falls_as_queries_end(rt: HostRuntime) -> Result<(), Fail>
     plays(&rt, rt.alloc(), &mut desk, &turns)
 }
 
+/// How many queries of GENERAL ended because they were too large.
+fn too_large(alloc: Global, desk: &Desk) -> Result<Option<u64>, Fail> {
+    let looked = desk.look(alloc)?;
+    let counters = looked.snapshot.counters.as_slice();
+    Ok(counters.first().map(|c| c.toolarge))
+}
+
 #[test]
 fn a_query_that_became_too_large_ends(rt: HostRuntime) -> Result<(), Fail> {
     let general = Name::general();
@@ -600,16 +608,7 @@ fn a_query_that_became_too_large_ends(rt: HostRuntime) -> Result<(), Fail> {
         ),
     ];
     plays(&rt, rt.alloc(), &mut desk, &turns)?;
-    let looked = desk.look(rt.alloc())?;
-    assert_eq!(rt;
-        looked
-            .snapshot
-            .counters
-            .as_slice()
-            .first()
-            .map(|c| c.toolarge),
-        Some(1)
-    );
+    assert_eq!(rt; too_large(rt.alloc(), &desk)?, Some(1));
     Ok(())
 }
 
@@ -627,6 +626,23 @@ fn seen(session: u32, pool: Name, own: u64, borrowed: u64) -> RunningSeen {
         start: Moment::of(9),
         moves: 0,
     }
+}
+
+/// These run, and queries of these numbers wait.
+fn shows_queries(rt: &impl Abort, snapshot: &Snapshot, runs: &[RunningSeen], waits: &[u64]) {
+    assert!(rt; snapshot.running.as_slice() == runs);
+    let waiting = snapshot.waiting.as_slice();
+    assert!(rt; waiting.iter().map(|w| w.query).eq(waits.iter().copied()));
+}
+
+fn shows_sessions(rt: &impl Abort, snapshot: &Snapshot, conditions: &[Condition]) {
+    let sessions = snapshot.sessions.as_slice();
+    assert!(rt;
+        sessions
+            .iter()
+            .map(|x| x.condition)
+            .eq(conditions.iter().copied())
+    );
 }
 
 #[test]
@@ -666,16 +682,13 @@ fn a_look_shows_queries_in_their_orders(rt: HostRuntime) -> Result<(), Fail> {
     plays(&rt, rt.alloc(), &mut desk, &turns)?;
     let looked = desk.look(rt.alloc())?;
     let runs = [seen(1, etl, 20_971_520, 0), seen(2, etl, 0, 20_971_520)];
-    assert!(rt; looked.snapshot.running.as_slice() == runs.as_slice());
-    let waiting = looked.snapshot.waiting.as_slice();
-    assert!(rt; waiting.iter().map(|w| w.query).eq([3]));
+    shows_queries(&rt, &looked.snapshot, &runs, &[3]);
     let conditions = [
         Condition::Running,
         Condition::Running,
         Condition::Waiting,
         Condition::Idle,
     ];
-    let sessions = looked.snapshot.sessions.as_slice();
-    assert!(rt; sessions.iter().map(|x| x.condition).eq(conditions));
+    shows_sessions(&rt, &looked.snapshot, &conditions);
     Ok(())
 }
