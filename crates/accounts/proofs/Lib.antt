@@ -1,6 +1,5 @@
 pub mod Sums
 pub mod Named
 pub mod Keeping
-pub mod Places
 pub mod Seen
 pub mod Standing

@@ -18,7 +18,7 @@ use Rattle.accounts.specs.Bytes.{own_at, unused_at, worth_of, pool_at, lent_by, 
 use Rattle.accounts.specs.Kept.{IsKept, seen}
 use Rattle.accounts.proofs.Named.{lent_of, own_of_names, unused_of_names, actual_of_names}
 use Rattle.accounts.proofs.Keeping.{kept_first, lent-under}
-use Rattle.accounts.proofs.Places.{without-absent, find-found, find-absent, before-found}
+use Rattle.rm_rules.proofs.Places.{without-absent, find-found, find-absent, before-found}
 
 -- lists that are those of the fields
 pub record AreOf (ps : List Name) (ns : List ℕ) (gs : List Grant) (m : Inside) : Type 0 where

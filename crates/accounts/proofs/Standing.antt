@@ -15,7 +15,7 @@ use Rattle.rm_rules.specs.Definitions.{total, user_pools}
 use Rattle.rm_rules.specs.State.{State, start, without, without_runner}
 use Rattle.rm_rules.specs.Sound.{IsSound, has_pool}
 use Rattle.rm_rules.proofs.Pools.{is_called, pool_names}
-use Rattle.rm_rules.specs.Accounting.{used, debt, own_of, unused_of, lent, free, account_behind, accounts_behind, accounts}
+use Rattle.rm_rules.specs.Accounting.{used, running_in, debt, own_of, unused_of, lent, free, account_behind, accounts_behind, accounts}
 use Rattle.rm_rules.specs.Admission.{need}
 use Rattle.rm_rules.specs.Conserved.{actual_of}
 use Rattle.rm_rules.specs.Shuffle.{fallen, with_force, growth, grown_sizes, shuffled}
@@ -24,7 +24,7 @@ use Rattle.rm_rules.proofs.Taken.{counted_among, sum_without}
 use Rattle.accounts.specs.declared.holdings.Grant.{Grant}
 use Rattle.accounts.specs.Accounts.{AccountsState, StandsFor, as_grant, as_runner, runners, names_in, state_of, state_under, is_of, has_name, has_query, no_account, account_of, first_accounts, with_pool, taken, given_back, shuffled_under}
 use Rattle.accounts.specs.Bytes.{held_in, own_at, unused_at, worth_of, pool_at, lent_by}
-use Rattle.accounts.proofs.Sums.{sum_by-map, used_runners}
+use Rattle.accounts.proofs.Sums.{sum_by-map, used_runners, running_in_runners}
 use Rattle.accounts.proofs.Named.{lent-named, lent_of, own-named, unused-named, actual-named, own_of_names, unused_of_names, actual_of_names}
 
 -- the use of each pool is read off the grants
@@ -33,6 +33,13 @@ used-grants pool running = sym (sum_by-map (held_in pool) as_grant running)
 
 pub used-same : (running : List Runner) (gs : List Grant) (pool : Name) → map as_grant running ≡ gs → used pool running ≡ used pool (runners gs)
 used-same running gs pool same = used-grants pool running ∙ ap (λ xs. sum_by (held_in pool) xs) same ∙ sym (used_runners pool gs)
+
+running-grants : (pool : Name) (running : List Runner) → running_in pool running ≡ count_by (λ g. same_name g.pool pool) (map as_grant running)
+running-grants pool running = sym (sum_by-map (λ g. cond (same_name g.pool pool) 1 0) as_grant running)
+
+pub running-same : (running : List Runner) (gs : List Grant) (pool : Name) → map as_grant running ≡ gs → running_in pool running ≡ running_in pool (runners gs)
+running-same running gs pool same =
+    running-grants pool running ∙ ap (λ xs. count_by (λ g. same_name g.pool pool) xs) same ∙ sym (running_in_runners pool gs)
 
 -- what depends on the running queries by the use of pools alone
 lent-same : (running other : List Runner) (names : List Name) (ns : List ℕ) → ((p : Name) → used p running ≡ used p other) → lent_by names ns running ≡ lent_by names ns other

@@ -1,11 +1,11 @@
 -- Sums of grants.
-use Rattle.std.proofs.Common.{◌≡◌, ◌≤◌, ◌<◌, ℕ, ◌+◌, Bool, true, false, List, [], ◌∷◌, arith, cond, sum_by, take, map, length, get_or, refl, ap, ◌∙◌, sym}
+use Rattle.std.proofs.Common.{◌≡◌, ◌≤◌, ◌<◌, ℕ, ◌+◌, Bool, true, false, List, [], ◌∷◌, arith, cond, sum_by, count_by, take, map, length, get_or, refl, ap, ◌∙◌, sym}
 use Rattle.std.specs.List.{zip}
 use Rattle.std.proofs.lemmas.List.Sums.{sum_by-cons, sum_by-le-sum_by, sum_by_more_le, fold_more}
 use Rattle.std.proofs.lemmas.Slice.Zip.{length-zip, get_or-zip}
 use Rattle.rm_base.specs.declared.name.Name.{Name}
 use Rattle.rm_base.specs.Name.{same_name}
-use Rattle.rm_rules.specs.Accounting.{grant_in, used}
+use Rattle.rm_rules.specs.Accounting.{grant_in, used, running_in}
 use Rattle.rm_rules.specs.State.{without}
 use Rattle.accounts.specs.declared.holdings.Grant.{Grant}
 use Rattle.accounts.specs.Accounts.{as_runner, runners}
@@ -18,6 +18,10 @@ sum_by-map f g (x ∷ xs) = omega (arith, sum_by-cons f (g x) (map g xs), sum_by
 -- the use of a pool, as a sum over the grants
 pub used_runners : (pool : Name) (grants : List Grant) → used pool (runners grants) ≡ sum_by (held_in pool) grants
 used_runners pool grants = sum_by-map (grant_in pool) as_runner grants
+
+-- how many run in a pool, as a count of the grants
+pub running_in_runners : (pool : Name) (grants : List Grant) → running_in pool (runners grants) ≡ count_by (λ g. same_name g.pool pool) grants
+running_in_runners pool grants = sum_by-map (λ r. cond (same_name r.pool pool) 1 0) as_runner grants
 
 held_in-le : (b : Bool) (n : ℕ) → cond b n 0 ≤ n
 held_in-le true n = omega arith

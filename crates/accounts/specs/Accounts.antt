@@ -1,5 +1,5 @@
 -- What the accounts are seen as, the state of the rules for which they stand, and what each call does to them.
-use Rattle.std.specs.Prelude.{◌≡◌, ℕ, ◌==◌, Bool, not, List, [], ◌∷◌, ◌++◌, Some, None, find, take_while, map, count_by, false}
+use Rattle.std.specs.Prelude.{◌≡◌, ℕ, ◌==◌, Bool, not, List, [], ◌∷◌, ◌++◌, Some, None, find, take_while, map, false}
 use Rattle.std.specs.List.{list_any}
 use Rattle.rm_base.specs.declared.definitions.Definitions.{Definitions}
 use Rattle.rm_base.specs.declared.entry.Account.{Account}
@@ -96,10 +96,6 @@ has_query a query = list_any (is_of query) a.grants
 -- the numbers of the running queries, in their order
 abbrev pub queries : AccountsState → List ℕ
 queries a = map (λ g. g.query) a.grants
-
--- how many queries run in this pool
-abbrev pub running_in : AccountsState → Name → ℕ
-running_in a pool = count_by (λ g. same_name g.pool pool) a.grants
 
 -- what the query holds; one that does not run holds nothing
 abbrev pub grant_of : AccountsState → ℕ → ℕ

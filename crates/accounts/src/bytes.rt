@@ -1,7 +1,7 @@
 //! Bytes, as sums over the lists of names, sizes and grants.
 ghost use Rattle.std.specs.Prelude.{◌≡◌, ◌<◌, ◌≤◌, ◌+◌, ◌-◌, ◌^◌, length, sum_by};
 ghost use Rattle.std.specs.List.{zip};
-ghost use Rattle.rm_rules.specs.Accounting.{used};
+ghost use Rattle.rm_rules.specs.Accounting.{used, running_in};
 ghost use Rattle.accounts.specs.Accounts.{runners};
 ghost use Rattle.accounts.specs.Bytes.{held, held_in, own_at, unused_at, debt_at, worth_of, pool_at, lent_by, account_with};
 
@@ -28,6 +28,15 @@ pub fn used(grants: &[Grant], pool: Name) -> u64
     ensures most { result ≤ held grants.now }
 {
     sum_in(grants, pool)
+}
+
+/// How many of these queries run in the pool.
+#[tactic(auto, using(crate::proofs::Sums::running_in_runners))]
+pub fn running_in(grants: &[Grant], pool: Name) -> usize
+    ensures value { result ≡ running_in pool (runners grants.now) }
+    ensures most { result ≤ length grants.now }
+{
+    grants.iter().filter(|g| g.pool.same(pool)).count()
 }
 
 /// What a pool of this size has borrowed beyond its own bytes.

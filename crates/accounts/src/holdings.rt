@@ -5,7 +5,7 @@ ghost use Rattle.rm_rules.specs.Definitions.{user_pools};
 ghost use Rattle.rm_rules.specs.Sound.{IsSound};
 ghost use Rattle.accounts.specs.Accounts.{names_in, first_accounts, is_of};
 
-use crate::bytes::{account_with, lent, own_of, size_of, unused_of, used};
+use crate::bytes::{account_with, lent, own_of, running_in, size_of, unused_of, used};
 use crate::sizes::{reserved, shuffle};
 use budgets::total;
 use rm_base::definitions::Definitions;
@@ -92,10 +92,10 @@ fn place_of(grants: &[Grant], query: u64) -> Option<usize>
 }
 
 impl Accounts {
-    ghost use Rattle.rm_rules.specs.Accounting.{used, lent, free};
+    ghost use Rattle.rm_rules.specs.Accounting.{used, running_in, lent, free};
     ghost use Rattle.rm_rules.specs.Admission.{need};
     ghost use Rattle.rm_rules.specs.Conserved.{actual_of};
-    ghost use Rattle.accounts.specs.Accounts.{state_of, has_name, has_query, queries, running_in, grant_of, account_of, taken, given_back, with_pool, shuffled_under};
+    ghost use Rattle.accounts.specs.Accounts.{state_of, has_name, has_query, queries, grant_of, account_of, taken, given_back, with_pool, shuffled_under};
 
     /// No query runs yet. All memory that the accounts will ever use is taken here.
     pub fn new(alloc: Global, definitions: &Definitions) -> Result<Accounts, AllocError>
@@ -167,9 +167,10 @@ impl Accounts {
 
     /// How many queries run in the pool.
     pub fn running(&self, pool: Name) -> u32
-        ensures { result ≡ running_in self.now pool }
+        ensures value { result ≡ running_in pool (state_of self.now).running }
+        ensures most { result ≤ SESSIONS_MOST }
     {
-        self.grants.iter().filter(|g| g.pool.same(pool)).count() as u32
+        running_in(&self.grants, pool) as u32
     }
 
     /// How many queries run.

@@ -6,7 +6,7 @@ ghost use Rattle.rm_base.specs.declared.definitions.Definitions.{Definitions};
 ghost use Rattle.rm_base.specs.declared.name.Name.{Name};
 ghost use Rattle.rm_rules.specs.declared.state.Runner.{Runner};
 ghost use Rattle.rm_rules.specs.State.{State, start, without_runner};
-ghost use Rattle.rm_rules.specs.Accounting.{used, own_of, unused_of, lent, free, account_behind, accounts};
+ghost use Rattle.rm_rules.specs.Accounting.{used, running_in, own_of, unused_of, lent, free, account_behind, accounts};
 ghost use Rattle.rm_rules.specs.Admission.{need};
 ghost use Rattle.rm_rules.specs.Conserved.{actual_of};
 ghost use Rattle.rm_rules.specs.Shuffle.{shuffled};
@@ -18,6 +18,9 @@ pub fn numbers_agree()
     ensures used { (s : State) (a : AccountsState) (pool : Name)
         → StandsFor s a
         → used pool s.running ≡ used pool (state_of a).running }
+    ensures running { (s : State) (a : AccountsState) (pool : Name)
+        → StandsFor s a
+        → running_in pool s.running ≡ running_in pool (state_of a).running }
     ensures actual { (s : State) (a : AccountsState) (pool : Name)
         → StandsFor s a
         → actual_of s pool ≡ actual_of (state_of a) pool }

@@ -12,12 +12,12 @@ mod definitions;
 mod shares;
 
 use crate::caps::{least_cap, row_cap};
-use crate::definitions::pool_row;
 pub use crate::definitions::total;
 use crate::shares::{row_budget, row_planned, row_threshold};
 use rm_base::definitions::Definitions;
 use rm_base::name::Name;
 use rm_base::refusal::Refusal;
+use rm_rules::rows::pool_row;
 
 /// PLANNEDCONCURRENCY in force: so many queries share what the pool has.
 pub fn planned(definitions: &Definitions, pool: Name) -> u32

@@ -6,10 +6,11 @@ ghost use Rattle.rm_rules.specs.Sound.{IsSound};
 ghost use Rattle.rm_base.specs.Ranges.{is_pool_in_range};
 ghost use Rattle.rm_rules.specs.Acceptance.{with_row, with_pool};
 
-use crate::rows::{pool_called, pool_row, reserved, total};
+use crate::rows::{reserved, total};
 use rm_base::definitions::Definitions;
 use rm_base::name::Name;
 use rm_base::rows::PoolRow;
+use rm_rules::rows::{pool_called, pool_row};
 
 pub fn called_after(rows: &[PoolRow], row: &PoolRow, name: Name) -> Option<PoolRow>
     ensures { result ≡ pool_called (with_row row.now rows.now) name }

@@ -8,11 +8,11 @@ ghost use Rattle.pool_table.specs.Longest.{other_length, longest_of_others};
 ghost use Rattle.rm_rules.specs.Acceptance.{with_row, with_pool, cascade_of, chain, chain_from, length_through, longest_through};
 
 use crate::after::called_after;
-use crate::rows::pool_called;
 use rm_base::definitions::Definitions;
 use rm_base::limits::POOLS_MOST;
 use rm_base::name::Name;
 use rm_base::rows::PoolRow;
+use rm_rules::rows::pool_called;
 
 /// Whether a chain ends after at most so many pools, all of which are there.
 pub fn chain_ends(rows: &[PoolRow], next: Option<Name>, most: u32) -> bool

@@ -6,13 +6,13 @@ ghost use Rattle.rm_rules.specs.Acceptance.{with_pool, refused_if, total_out_of_
 
 use crate::after::{called_after, reserved_after, total_after};
 use crate::chains::{is_on_chain, longest_through};
-use crate::rows::pool_called;
 use rm_base::definitions::Definitions;
 use rm_base::limits::{CHAIN_MOST, CHANGES_MOST, POOLS_MOST, TOTAL_LEAST};
 use rm_base::name::Name;
 use rm_base::refusal::{Parameter, Refusal, TableKind};
 use rm_base::rows::PoolRow;
 use rm_base::statement::PoolChange;
+use rm_rules::rows::pool_called;
 
 fn refused_if(holds: bool, refusal: Refusal) -> Option<Refusal>
     ensures { result ≡ refused_if holds refusal }

@@ -11,19 +11,7 @@ use rm_base::definitions::{Definitions, default_pool_row};
 use rm_base::name::Name;
 use rm_base::rows::PoolRow;
 use rm_base::statement::{PoolChange, Size};
-
-pub fn pool_called(rows: &[PoolRow], name: Name) -> Option<PoolRow>
-    ensures { result ≡ pool_called rows.now name }
-{
-    rows.iter().copied().find(|r| r.name.same(name))
-}
-
-/// The pool's row; a pool that is not there is read as one with all defaults.
-pub fn pool_row(definitions: &Definitions, name: Name) -> PoolRow
-    ensures { result ≡ pool_row definitions.now name }
-{
-    pool_called(definitions.pools.rows(), name).unwrap_or(default_pool_row(name))
-}
+use rm_rules::rows::pool_row;
 
 /// The total, in bytes.
 #[tactic(auto, using(crate::proofs::Sizes::total_most))]

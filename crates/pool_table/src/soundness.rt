@@ -9,7 +9,7 @@ ghost use Rattle.rm_base.specs.Ranges.{passes_if_set, is_between, is_priority, i
 ghost use Rattle.pool_table.specs.Soundness.{are_numbers_in_range, are_counts_in_range, are_values_in_range, are_names_right, is_total_right, are_links_right};
 
 use crate::chains::chain_ends;
-use crate::rows::{pool_called, reserved, total};
+use crate::rows::{reserved, total};
 use rm_base::definitions::Definitions;
 use rm_base::limits::{
     CHAIN_MOST, CHANGES_MOST, CONCURRENCY_MOST, CORES_MOST, GRANTS_MOST, MEMORY_LEAST, MEMORY_MOST,
@@ -18,6 +18,7 @@ use rm_base::limits::{
 };
 use rm_base::name::Name;
 use rm_base::rows::{GrantRow, PoolRow, RoleRow, UserRow};
+use rm_rules::rows::{pool_called, role_called, user_called};
 
 /// Whether the definitions are sound: what every accepted statement keeps.
 pub fn sound(definitions: &Definitions) -> bool
@@ -252,18 +253,6 @@ fn are_users_distinct(users: &[UserRow], roles: &[RoleRow]) -> bool
             !is_owner_name(first.name, rest, roles) && are_users_distinct(rest, roles)
         }
     }
-}
-
-fn user_called(users: &[UserRow], name: Name) -> Option<UserRow>
-    ensures { result ≡ user_called users.now name }
-{
-    users.iter().copied().find(|u| u.name.same(name))
-}
-
-fn role_called(roles: &[RoleRow], name: Name) -> Option<RoleRow>
-    ensures { result ≡ role_called roles.now name }
-{
-    roles.iter().copied().find(|r| r.name.same(name))
 }
 
 fn has_user(users: &[UserRow], name: Name) -> bool

@@ -206,8 +206,8 @@ range-turn : (pools : List PoolRow) (name : Name) (o : Option PoolRow) → pool_
 range-turn pools name None e all = refl
 range-turn pools name (Some r) e all = all_found is_pool_in_range (λ x. same_name x.name name) pools r all e
 
-pool_row-in_range : (d : Definitions) (name : Name) → IsSound d → is_pool_in_range (pool_row d name) ≡ true
-pool_row-in_range d name sound = range-turn d.pools name (pool_called d.pools name) refl sound.pools_in_range
+pub pool_row_in_range : (d : Definitions) (name : Name) → IsSound d → is_pool_in_range (pool_row d name) ≡ true
+pool_row_in_range d name sound = range-turn d.pools name (pool_called d.pools name) refl sound.pools_in_range
 
 general-turn : (pools : List PoolRow) → begins_with_general pools ≡ true → ((unwrap_or (pool_called pools general) (default_pool_row general)).memory == 0) ≡ true
 general-turn [] begins = absurd (false≢true begins)
@@ -229,7 +229,7 @@ pub created-in_range : (d : Definitions) (name : Name) (c : PoolChange) → IsSo
 created-in_range d name c sound named = changed-in_range d (default_pool_row name) c (memory-fits d sound) sound.total_most named refl
 
 pub altered-in_range : (d : Definitions) (name : Name) (c : PoolChange) → IsSound d → is_pool_change_in_range c ≡ true → is_pool_in_range (altered_row d name c) ≡ true
-altered-in_range d name c sound named = changed-in_range d (pool_row d name) c (memory-fits d sound) sound.total_most named (pool_row-in_range d name sound)
+altered-in_range d name c sound named = changed-in_range d (pool_row d name) c (memory-fits d sound) sound.total_most named (pool_row_in_range d name sound)
 
 -- what a created pool's row is
 pub let_in-created : (d : Definitions) (name : Name) (c : PoolChange) → IsSound d → is_pool_change_in_range c ≡ true

@@ -26,13 +26,13 @@ use Rattle.rm_rules.specs.Budget.{is_too_large}
 use Rattle.rm_rules.specs.State.{State, session_called, session_of, if_opened_by, session_pool, phase_of, with_phase, without_runner, is_idle, is_active, is_waiting, is_running, live_queries, active_queries, counted_entries}
 use Rattle.rm_rules.specs.Accounting.{used, grant_in, reserves}
 use Rattle.rm_rules.specs.Acceptance.{accepted}
-use Rattle.rm_rules.specs.Change.{Says, Tells, Change, change, quiet, defining_to, defining, defined, opening, opened, new_session, has_chosen, choosing, chosen, submitting, submitted, new_waiter, polling_in, polling, collected, finishing, finishing_with, finished, runner_of, is_journal_full}
+use Rattle.rm_rules.specs.Change.{Answer, Says, Tells, Change, is_defining, tried, change, quiet, defining_to, defining, defined, opening, opened, new_session, has_chosen, choosing, chosen, submitting, submitted, new_waiter, polling_in, polling, collected, finishing, finishing_with, finished, runner_of, is_journal_full}
 use Rattle.rm_rules.specs.Step.{IsFormed}
 use Rattle.rm_rules.specs.Sound.{has_pool}
 use Rattle.rm_base.specs.Ranges.{passes_if_set}
 use Rattle.rm_rules.specs.Healthy.{IsHeld, AreInPhase, AreNumbered, counted_for, defining_for, one_if}
 use Rattle.rm_rules.proofs.Taken.{sum_without, length_without, found_passes, all_without, all_push, all_found, not_true}
-use Rattle.rm_rules.proofs.Phases.{phase_of-with_other, phase_of-with_same, length-with, live-with, active-with, phase_of-found, phase_of-push, live-push, active-push, phase_of-choice, length-choice, count-choice}
+use Rattle.rm_rules.proofs.Phases.{active-live, phase_of-with_other, phase_of-with_same, length-with, live-with, active-with, phase_of-found, phase_of-push, live-push, active-push, phase_of-choice, length-choice, count-choice}
 use Rattle.rm_rules.proofs.Bytes.{debts-less}
 use Rattle.rm_rules.proofs.Known.{session_pool-known, chosen-with, chosen-choice}
 use Rattle.rm_rules.proofs.AcceptanceLaws.{accepted-sound, accepted-counted}
@@ -91,7 +91,7 @@ kept-opened s seat user c h o =
       };
       numbered = record { once = h.numbered.once; given = h.numbered.given };
       room = record {
-        kept = omega (arith, o.room, live-push s.sessions y refl, length_push s.sessions y);
+        kept = omega (arith, o.room, active-live s.sessions, live-push s.sessions y refl, active-push s.sessions y refl, length_push s.sessions y);
         defined = h.room.defined;
         sessions = omega (arith, h.room.sessions);
         queries = omega (arith, h.room.queries);
@@ -236,7 +236,7 @@ kept-submitted s x floor h found idle room =
       };
       numbered = let t = numbered-submitted s w h.numbered refl in record { once = t.once; given = t.given };
       room = record {
-        kept = omega (arith, room, live, length-with x.number phase.Waiting s.sessions);
+        kept = omega (arith, room, active-live s.sessions, live, active, length-with x.number phase.Waiting s.sessions);
         defined = h.room.defined;
         sessions = omega (arith, h.room.sessions);
         queries = omega (arith, h.room.queries);
@@ -323,7 +323,7 @@ kept-finished s x r h found running runs =
       };
       numbered = let t = numbered-finished s x r h.numbered runs in record { once = t.once; given = t.given };
       room = record {
-        kept = omega (arith, h.room.kept, live, length-with x.number phase.Idle s.sessions);
+        kept = omega (arith, h.room.kept, live, active, length-with x.number phase.Idle s.sessions);
         defined = h.room.defined;
         sessions = omega (arith, h.room.sessions);
         queries = omega (arith, h.room.queries);
@@ -364,16 +364,16 @@ kept-defined s statement new formed h accepts =
 
 -- SetPool: nothing changes, or the choice of a session
 pub data Chooses (s : State) (o : Option Session) (pool : Name) : Change → Type 0 where
-  stays : Chooses s o pool (quiet s (Says reply.Set))
-  changes : (x : Session) → o ≡ Some x → has_chosen x pool ≡ false → has_pool s.definitions pool ≡ true
+  repeats : Chooses s o pool (quiet s (Says reply.Set))
+  selects : (x : Session) → o ≡ Some x → has_chosen x pool ≡ false → has_pool s.definitions pool ≡ true
       → counted_entries s.journal + 1 + ENTRIES_A_QUERY * live_queries s.sessions + ENTRIES_A_SESSION * length s.sessions ≤ s.room
       → Chooses s o pool (chosen s x pool)
 
 chosen-turn : (s : State) (x : Session) (pool : Name) (c : Change) (b : Bool) → has_chosen x pool ≡ b → has_pool s.definitions pool ≡ true
     → counted_entries s.journal + 1 + ENTRIES_A_QUERY * live_queries s.sessions + ENTRIES_A_SESSION * length s.sessions ≤ s.room
     → cond {A = Result Change Refusal} b (Ok (quiet s (Says reply.Set))) (Ok (chosen s x pool)) ≡ Ok c → Chooses s (Some x) pool c
-chosen-turn s x pool c true e there room h = let is : quiet s (Says reply.Set) ≡ c = let k = h in cc in subst (Chooses s (Some x) pool) is stays
-chosen-turn s x pool c false e there room h = let is : chosen s x pool ≡ c = let k = h in cc in subst (Chooses s (Some x) pool) is (changes x refl e there room)
+chosen-turn s x pool c true e there room h = let is : quiet s (Says reply.Set) ≡ c = let k = h in cc in subst (Chooses s (Some x) pool) is repeats
+chosen-turn s x pool c false e there room h = let is : chosen s x pool ≡ c = let k = h in cc in subst (Chooses s (Some x) pool) is (selects x refl e there room)
 
 pub choosing-ok : (s : State) (o : Option Session) (pool : Name) (c : Change) → choosing s o pool ≡ Ok c → Chooses s o pool c
 choosing-ok s None pool c h = absurd (cc)
@@ -406,7 +406,7 @@ kept-chosen s x pool h there room = record {
   };
   numbered = record { once = h.numbered.once; given = h.numbered.given };
   room = record {
-    kept = omega (arith, room, count-choice (λ p. not (is_idle p)) x.number pool s.sessions, length-choice x.number pool s.sessions);
+    kept = omega (arith, room, active-live s.sessions, count-choice (λ p. not (is_idle p)) x.number pool s.sessions, count-choice is_active x.number pool s.sessions, length-choice x.number pool s.sessions);
     defined = h.room.defined;
     sessions = omega (arith, h.room.sessions);
     queries = omega (arith, h.room.queries);
@@ -416,13 +416,13 @@ kept-chosen s x pool h there room = record {
 -- Poll: nothing changes, or an end is collected
 pub data Polls (s : State) (o : Option Session) : Change → Type 0 where
   tells : (x : Session) → o ≡ Some x → Polls s o (quiet s (Tells x.number))
-  collects : (x : Session) (end : End) → o ≡ Some x → x.phase ≡ phase.Ended end → Polls s o (collected s x end)
+  takes : (x : Session) (end : End) → o ≡ Some x → x.phase ≡ phase.Ended end → Polls s o (collected s x end)
 
 polling-turn : (s : State) (x : Session) (p : Phase) (c : Change) → x.phase ≡ p → polling_in s x p ≡ Ok c → Polls s (Some x) c
 polling-turn s x phase.Idle c e h = absurd (cc)
 polling-turn s x phase.Waiting c e h = let is : quiet s (Tells x.number) ≡ c = cc in subst (Polls s (Some x)) is (tells x refl)
 polling-turn s x phase.Running c e h = let is : quiet s (Tells x.number) ≡ c = cc in subst (Polls s (Some x)) is (tells x refl)
-polling-turn s x (phase.Ended end) c e h = let is : collected s x end ≡ c = cc in subst (Polls s (Some x)) is (collects x end refl e)
+polling-turn s x (phase.Ended end) c e h = let is : collected s x end ≡ c = cc in subst (Polls s (Some x)) is (takes x end refl e)
 
 pub polling-ok : (s : State) (o : Option Session) (c : Change) → polling s o ≡ Ok c → Polls s o c
 polling-ok s None c h = absurd (cc)
@@ -475,7 +475,7 @@ kept-collected s x end h found ended =
       };
       numbered = record { once = h.numbered.once; given = h.numbered.given };
       room = record {
-        kept = omega (arith, h.room.kept, live, length-with x.number phase.Idle s.sessions);
+        kept = omega (arith, h.room.kept, live, active, length-with x.number phase.Idle s.sessions);
         defined = h.room.defined;
         sessions = omega (arith, h.room.sessions);
         queries = omega (arith, h.room.queries);
@@ -496,30 +496,6 @@ pub data IsChange (s : State) (seat : ℕ) : Event → Change → Type 0 where
       → IsChange s seat (Poll session) (collected s x end)
   finishes : (session : ℕ) (x : Session) (r : Runner) → session_of s seat session ≡ Some x → is_running x.phase ≡ true → runner_of s.running x.number ≡ Some r
       → IsChange s seat (Finish session) (finished s x r)
-
-choose-changes : (s : State) (seat session : ℕ) (pool : Name) (c : Change) → Chooses s (session_of s seat session) pool c → c.changed ≡ true
-    → IsChange s seat (SetPool session pool) c
-choose-changes s seat session pool _ stays loud = absurd (false≢true loud)
-choose-changes s seat session pool _ (changes x found other there room) loud = chooses session pool x found other there room
-
-poll-changes : (s : State) (seat session : ℕ) (c : Change) → Polls s (session_of s seat session) c → c.changed ≡ true → IsChange s seat (Poll session) c
-poll-changes s seat session _ (tells x found) loud = absurd (false≢true loud)
-poll-changes s seat session _ (collects x end found ended) loud = collects session x end found ended
-
-pub changed-is : (s : State) (seat : ℕ) (event : Event) (c : Change) → change s seat event ≡ Ok c → c.changed ≡ true → IsChange s seat event c
-changed-is s seat (Define statement) c ok loud =
-    let o = defining-ok s statement c ok in subst (IsChange s seat (Define statement)) o.is (defines statement o.new o.accepts)
-changed-is s seat (Open user) c ok loud =
-    let o = opening-ok s seat user c ok in
-    subst (IsChange s seat (Open user)) o.is (opens user (record { few = o.few; room = o.room; is = refl }))
-changed-is s seat (SetPool session pool) c ok loud = choose-changes s seat session pool c (choosing-ok s (session_of s seat session) pool c ok) loud
-changed-is s seat (Submit session floor) c ok loud =
-    let o = submitting-ok s (session_of s seat session) floor c ok in
-    subst (IsChange s seat (Submit session floor)) o.is (submits session floor o.session o.found o.idle o.room)
-changed-is s seat (Poll session) c ok loud = poll-changes s seat session c (polling-ok s (session_of s seat session) c ok) loud
-changed-is s seat (Finish session) c ok loud =
-    let o = finishing-ok s (session_of s seat session) c ok in
-    subst (IsChange s seat (Finish session)) o.is (finishes session o.session o.runner o.found o.phase_is o.runs)
 
 -- what holds of every change, before it settles
 pub kept-changed : (s : State) (seat : ℕ) (event : Event) (c : Change) → IsFormed event → AreKept 0 0 s → IsChange s seat event c
@@ -545,3 +521,43 @@ rest-changed s seat _ _ (chooses session pool x found other there room) = record
 rest-changed s seat _ _ (submits session floor x found idle room) = record { journal = refl; clock = refl; room = refl; force = refl }
 rest-changed s seat _ _ (collects session x end found ended) = record { journal = refl; clock = refl; room = refl; force = refl }
 rest-changed s seat _ _ (finishes session x r found running runs) = record { journal = refl; clock = refl; room = refl; force = refl }
+
+-- what is tried: nothing changes and an answer is given, or an event changes something
+pub data IsTried (s : State) (seat : ℕ) (event : Event) : Change → Type 0 where
+  stays : (answer : Answer) → is_defining answer ≡ false → IsTried s seat event (quiet s answer)
+  changes : (c : Change) → IsChange s seat event c → c.changed ≡ true → IsTried s seat event c
+
+choose-tried : (s : State) (seat session : ℕ) (pool : Name) (c : Change) → Chooses s (session_of s seat session) pool c → IsTried s seat (SetPool session pool) c
+choose-tried s seat session pool _ repeats = stays (Says reply.Set) refl
+choose-tried s seat session pool _ (selects x found other there room) = changes (chosen s x pool) (chooses session pool x found other there room) refl
+
+poll-tried : (s : State) (seat session : ℕ) (c : Change) → Polls s (session_of s seat session) c → IsTried s seat (Poll session) c
+poll-tried s seat session _ (tells x found) = stays (Tells x.number) refl
+poll-tried s seat session _ (takes x end found ended) = changes (collected s x end) (collects session x end found ended) refl
+
+ok-tried : (s : State) (seat : ℕ) (event : Event) (c : Change) → change s seat event ≡ Ok c → IsTried s seat event c
+ok-tried s seat (Define statement) c ok =
+    let o = defining-ok s statement c ok in
+    changes c (subst (IsChange s seat (Define statement)) o.is (defines statement o.new o.accepts)) (ap (λ (x : Change). x.changed) (sym o.is))
+ok-tried s seat (Open user) c ok =
+    let o = opening-ok s seat user c ok in
+    changes c (subst (IsChange s seat (Open user)) o.is (opens user (record { few = o.few; room = o.room; is = refl }))) (ap (λ (x : Change). x.changed) (sym o.is))
+ok-tried s seat (SetPool session pool) c ok = choose-tried s seat session pool c (choosing-ok s (session_of s seat session) pool c ok)
+ok-tried s seat (Submit session floor) c ok =
+    let o = submitting-ok s (session_of s seat session) floor c ok in
+    changes c (subst (IsChange s seat (Submit session floor)) o.is (submits session floor o.session o.found o.idle o.room)) (ap (λ (x : Change). x.changed) (sym o.is))
+ok-tried s seat (Poll session) c ok = poll-tried s seat session c (polling-ok s (session_of s seat session) c ok)
+ok-tried s seat (Finish session) c ok =
+    let o = finishing-ok s (session_of s seat session) c ok in
+    changes c (subst (IsChange s seat (Finish session)) o.is (finishes session o.session o.runner o.found o.phase_is o.runs)) (ap (λ (x : Change). x.changed) (sym o.is))
+
+tried-turn : (s : State) (seat : ℕ) (event : Event) (r : Result Change Refusal) → change s seat event ≡ r → IsTried s seat event (tried s r)
+tried-turn s seat event (Err refusal) is = stays (Says (reply.Refused refusal)) refl
+tried-turn s seat event (Ok c) is = ok-tried s seat event c is
+
+pub tried-is : (s : State) (seat : ℕ) (event : Event) → IsTried s seat event (tried s (change s seat event))
+tried-is s seat event = tried-turn s seat event (change s seat event) refl
+
+pub rest-tried : (s : State) (seat : ℕ) (event : Event) (c : Change) → IsTried s seat event c → LeavesRest s c.state
+rest-tried s seat event _ (stays answer plain) = record { journal = refl; clock = refl; room = refl; force = refl }
+rest-tried s seat event _ (changes c is loud) = rest-changed s seat event c is

@@ -14,8 +14,8 @@ use Rattle.rm_rules.specs.declared.state.Waiter.{Waiter}
 use Rattle.rm_rules.specs.Definitions.{user_pools, pool_row}
 use Rattle.rm_rules.specs.Budget.{threshold, cap}
 use Rattle.rm_rules.specs.State.{State}
-use Rattle.rm_rules.specs.Accounting.{grant_in, used, reserves, own, debt, unused, own_of, lent, account_behind, accounts_behind, accounts}
-use Rattle.rm_rules.specs.Admission.{poolfit, need, can_lend, ask_of, first_entitled, started, admitted}
+use Rattle.rm_rules.specs.Accounting.{grant_in, used, reserves, own, debt, unused, own_of, lent, account_behind, accounts_behind, accounts, running_in}
+use Rattle.rm_rules.specs.Admission.{poolfit, need, can_lend, ask_of, first_entitled, started, admitted, has_place}
 use Rattle.rm_rules.specs.Sound.{IsSound, has_pool, are_distinct}
 use Rattle.rm_rules.specs.Healthy.{IsCovered}
 use Rattle.rm_rules.specs.Conserved.{granted, unused_reserves, own_in, from_general, actual_of, IsConserved}
@@ -220,8 +220,11 @@ used-within-cap s w first =
     let fits = (first_entitled_fits s w first).1 in
     let outer = and_parts (poolfit s w.pool (ask_of s w)) (need s w.pool (ask_of s w) == 0 || can_lend s (need s w.pool (ask_of s w))) fits in
     let inner =
+    and_parts (has_place (pool_row s.definitions w.pool) (running_in w.pool s.running))
+    (nat_le (used w.pool s.running) (threshold s.definitions (pool_row s.definitions w.pool)) && nat_le (used w.pool s.running + ask_of s w) (cap s.definitions (pool_row s.definitions w.pool))) outer.0 in
+    let last =
     and_parts (nat_le (used w.pool s.running) (threshold s.definitions (pool_row s.definitions w.pool)))
-    (nat_le (used w.pool s.running + ask_of s w) (cap s.definitions (pool_row s.definitions w.pool))) outer.0 in
-    let within = leb-true (used w.pool s.running + ask_of s w) (cap s.definitions (pool_row s.definitions w.pool)) inner.1 in
+    (nat_le (used w.pool s.running + ask_of s w) (cap s.definitions (pool_row s.definitions w.pool))) inner.1 in
+    let within = leb-true (used w.pool s.running + ask_of s w) (cap s.definitions (pool_row s.definitions w.pool)) last.1 in
     let grant : grant_in w.pool (started s w) ≡ ask_of s w = rw (same_name-refl w.pool) refl in
     omega (arith, sum_by_push (grant_in w.pool) s.running (started s w), grant, within)

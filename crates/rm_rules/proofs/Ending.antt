@@ -10,18 +10,18 @@ use Rattle.rm_base.specs.Name.{same_name}
 use Rattle.rm_rules.specs.declared.state.Phase.TheVariants as phase
 use Rattle.rm_rules.specs.declared.state.Waiter.{Waiter}
 use Rattle.rm_rules.specs.declared.state.Runner.{Runner}
-use Rattle.rm_rules.specs.State.{State, phase_of, with_phase, with_one_end, with_end, without_waiter, is_idle, is_active, is_waiting, is_running, active_queries}
-use Rattle.rm_rules.specs.Settle.{ended_as}
+use Rattle.rm_rules.specs.State.{State, phase_of, with_phase, with_one_end, with_end, without_waiter, is_idle, is_active, is_waiting, is_running, live_queries, active_queries}
+use Rattle.rm_rules.specs.Deadlines.{ended_as}
 use Rattle.rm_rules.specs.Sound.{has_pool}
-use Rattle.rm_rules.specs.Healthy.{IsHeld, AreInPhase, AreNumbered, HasRoom, one_if}
+use Rattle.rm_rules.specs.Healthy.{IsHeld, IsCovered, AreInPhase, AreNumbered, HasRoom, one_if}
 use Rattle.rm_rules.proofs.Taken.{sum_without, length_without, found_passes, all_without}
 use Rattle.rm_rules.proofs.Phases.{phase_of-with_other, phase_of-with_same, length-with, live-with, active-with, open_if_live}
 use Rattle.rm_rules.proofs.Known.{chosen-with}
 use Rattle.rm_rules.proofs.Queue.{IsAmong}
-use Rattle.rm_rules.proofs.Moving.{waiting-live, waiting-active, session-waits, waiter_found}
+use Rattle.rm_rules.proofs.Moving.{AreKept, AreHeld, waiting-live, waiting-active, session-waits, waiter_found}
 
 -- one count changes, and no counter comes or goes
-length_with_end : (rows : List PoolRow) (pool : Name) (end : End) (counters : List EndCounts) → length (with_end rows pool end counters) ≡ length counters
+pub length_with_end : (rows : List PoolRow) (pool : Name) (end : End) (counters : List EndCounts) → length (with_end rows pool end counters) ≡ length counters
 length_with_end [] pool end counters = refl
 length_with_end (r ∷ rs) pool end [] = refl
 length_with_end (r ∷ rs) pool end (c ∷ cs) = elim (same_name r.name pool) as (λ b. length (cond b (with_one_end end c ∷ cs) (c ∷ with_end rs pool end cs)) ≡ length (c ∷ cs)) [
@@ -68,17 +68,27 @@ ended-turn end s w y n false differs h waits found =
       omega (arith, h.runs n, ap (λ p. one_if (is_running p)) now),
     )
 
+-- an end that nobody has collected is live, and its query active no more
+pub live-ended : (end : End) (s : State) (w : Waiter) → AreInPhase s → IsAmong w s.waiting → live_queries (with_phase w.session (phase.Ended end) s.sessions) ≡ live_queries s.sessions
+live-ended end s w h among =
+    let waits = session-waits s w h among in
+    let was : one_if (not (is_idle (phase_of s.sessions w.session))) ≡ 1 = ap {B = ℕ} (λ b. one_if (not b)) (waiting-live _ waits).0 in
+    omega (arith, was, live-with w.session (phase.Ended end) s.sessions (open_if_live w.session s.sessions (waiting-live _ waits).0))
+
+pub active-ended : (end : End) (s : State) (w : Waiter) → AreInPhase s → IsAmong w s.waiting → active_queries (with_phase w.session (phase.Ended end) s.sessions) + 1 ≡ active_queries s.sessions
+active-ended end s w h among =
+    let waits = session-waits s w h among in
+    let was : one_if (is_active (phase_of s.sessions w.session)) ≡ 1 = ap {B = ℕ} one_if (waiting-active _ waits) in
+    omega (arith, was, active-with w.session (phase.Ended end) s.sessions (open_if_live w.session s.sessions (waiting-live _ waits).0))
+
 pub in_phase-ended : (end : End) (s : State) (w : Waiter) → AreInPhase s → IsAmong w s.waiting → AreInPhase (ended_as end s w)
 in_phase-ended end s w h among =
     let waits = session-waits s w h among in
     let found = waiter_found s w among in
-    let was : one_if (is_active (phase_of s.sessions w.session)) ≡ 1 = ap {B = ℕ} one_if (waiting-active _ waits) in
-    let active : active_queries (with_phase w.session (phase.Ended end) s.sessions) + 1 ≡ active_queries s.sessions =
-    omega (arith, active-with w.session (phase.Ended end) s.sessions (open_if_live w.session s.sessions (waiting-live _ waits).0), was) in
     record {
       waits = λ n. (ended-turn end s w found.0 n (eqb w.session n) refl h waits found.1).0;
       runs = λ n. (ended-turn end s w found.0 n (eqb w.session n) refl h waits found.1).1;
-      active = omega (arith, h.active, active, length_without (λ (x : Waiter). eqb x.session w.session) found.0 s.waiting found.1);
+      active = omega (arith, h.active, active-ended end s w h among, length_without (λ (x : Waiter). eqb x.session w.session) found.0 s.waiting found.1);
       few = omega (arith, h.few, length-with w.session (phase.Ended end) s.sessions);
     }
 
@@ -89,15 +99,51 @@ numbered-ended end s w h among =
     let less = λ (n : ℕ). sum_without (λ (x : Waiter). cond (eqb x.query n) 1 0) (λ x. eqb x.session w.session) found.0 s.waiting found.1 in
     record { once = λ n. omega (arith, less n, h.once n); given = λ n above. omega (arith, less n, h.given n above) }
 
--- an end that nobody has collected is live
+-- what the journal keeps free
 pub room-ended : (k d : ℕ) (end : End) (s : State) (w : Waiter) → AreInPhase s → HasRoom k d s → IsAmong w s.waiting → HasRoom k d (ended_as end s w)
-room-ended k d end s w h room among =
-    let waits = session-waits s w h among in
-    let was : one_if (not (is_idle (phase_of s.sessions w.session))) ≡ 1 = ap {B = ℕ} (λ b. one_if (not b)) (waiting-live _ waits).0 in
-    let live = live-with w.session (phase.Ended end) s.sessions (open_if_live w.session s.sessions (waiting-live _ waits).0) in
-    record {
-      kept = omega (arith, room.kept, live, was, length-with w.session (phase.Ended end) s.sessions);
-      defined = room.defined;
-      sessions = room.sessions;
-      queries = room.queries;
-    }
+room-ended k d end s w h room among = record {
+  kept = omega (arith, room.kept, live-ended end s w h among, active-ended end s w h among, length-with w.session (phase.Ended end) s.sessions);
+  defined = room.defined;
+  sessions = room.sessions;
+  queries = room.queries;
+}
+
+-- so there is room for one entry more
+pub room-ended-more : (k d : ℕ) (end : End) (s : State) (w : Waiter) → AreInPhase s → HasRoom k d s → IsAmong w s.waiting → HasRoom (k + 1) d (ended_as end s w)
+room-ended-more k d end s w h room among = record {
+  kept = omega (arith, room.kept, live-ended end s w h among, active-ended end s w h among, length-with w.session (phase.Ended end) s.sessions);
+  defined = room.defined;
+  sessions = omega (arith, room.sessions);
+  queries = omega (arith, room.queries);
+}
+
+-- what is kept once a state has settled, and before
+pub covered-ended : (end : End) (s : State) (w : Waiter) → IsCovered s → IsCovered (ended_as end s w)
+covered-ended end s w h = record { held = held-ended end s w h.held; in_force_least = h.in_force_least; full_above_total = h.full_above_total }
+
+pub all-held-ended : (k d : ℕ) (end : End) (s : State) (w : Waiter) → IsAmong w s.waiting → AreHeld k d s → AreHeld k d (ended_as end s w)
+all-held-ended k d end s w among h = record {
+  sound = h.sound;
+  held = held-ended end s w h.held;
+  in_phase = in_phase-ended end s w h.in_phase among;
+  numbered = numbered-ended end s w h.numbered among;
+  room = room-ended k d end s w h.in_phase h.room among;
+}
+
+pub all-kept-ended : (k d : ℕ) (end : End) (s : State) (w : Waiter) → IsAmong w s.waiting → AreKept k d s → AreKept k d (ended_as end s w)
+all-kept-ended k d end s w among h = record {
+  sound = h.sound;
+  covered = covered-ended end s w h.covered;
+  in_phase = in_phase-ended end s w h.in_phase among;
+  numbered = numbered-ended end s w h.numbered among;
+  room = room-ended k d end s w h.in_phase h.room among;
+}
+
+pub all-kept-ended-more : (k d : ℕ) (end : End) (s : State) (w : Waiter) → IsAmong w s.waiting → AreKept k d s → AreKept (k + 1) d (ended_as end s w)
+all-kept-ended-more k d end s w among h = record {
+  sound = h.sound;
+  covered = covered-ended end s w h.covered;
+  in_phase = in_phase-ended end s w h.in_phase among;
+  numbered = numbered-ended end s w h.numbered among;
+  room = room-ended-more k d end s w h.in_phase h.room among;
+}

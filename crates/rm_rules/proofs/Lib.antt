@@ -1,4 +1,5 @@
 pub mod Taken
+pub mod Places
 pub mod Phases
 pub mod Bytes
 pub mod Pools
@@ -14,6 +15,10 @@ pub mod Shuffling
 pub mod Moving
 pub mod Ending
 pub mod Settling
+pub mod Rests
+pub mod Idle
+pub mod SettledLaws
 pub mod Changing
+pub mod Answering
 pub mod Loud
 pub mod Laws

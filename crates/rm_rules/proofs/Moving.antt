@@ -40,7 +40,7 @@ pub record AreHeld (entries statements : ℕ) (s : State) : Type 0 where
   pub room : HasRoom entries statements s
 
 -- what fits needs no more than is free
-enough : (p : Bool) (n l t f : ℕ) → (p && (eqb n 0 || (leb l t && leb n f))) ≡ true → n ≤ f
+pub enough : (p : Bool) (n l t f : ℕ) → (p && (eqb n 0 || (leb l t && leb n f))) ≡ true → n ≤ f
 enough p n l t f h = grind (arith, nat_tests)
 
 -- GENERAL's use after an admission is within its size
@@ -82,7 +82,7 @@ covered-admitted s w sound covered picked =
       full_above_total = λ above. full-admitted s w sound covered f.1 (covered.full_above_total above);
     }
 
-one_if-most : (b : Bool) → one_if b ≤ 1
+pub one_if-most : (b : Bool) → one_if b ≤ 1
 one_if-most true = omega arith
 one_if-most false = omega arith
 
@@ -214,9 +214,9 @@ numbered-admitted s w h numbered picked = record {
 
 pub room-admitted : (k d : ℕ) (s : State) (w : Waiter) → AreInPhase s → HasRoom k d s → first_entitled s ≡ Some w → HasRoom k d (admitted s w)
 room-admitted k d s w h room picked =
-    let live = live-admitted s w h (first_entitled_fits s w picked).0 in
+    let among = (first_entitled_fits s w picked).0 in
     record {
-      kept = omega (arith, room.kept, live, length-with w.session phase.Running s.sessions);
+      kept = omega (arith, room.kept, live-admitted s w h among, active-admitted s w h among, length-with w.session phase.Running s.sessions);
       defined = room.defined;
       sessions = room.sessions;
       queries = room.queries;

@@ -1,5 +1,5 @@
 -- Sessions and their phases.
-use Rattle.std.proofs.Common.{◌≡◌, ℕ, ◌+◌, Bool, true, false, not, cond, eqb, List, [], ◌∷◌, ◌++◌, length, Some, None, Option, refl, sym, ap, ◌∙◌, arith, count_by}
+use Rattle.std.proofs.Common.{◌≡◌, ℕ, ◌+◌, ◌≤◌, Bool, true, false, not, cond, eqb, List, [], ◌∷◌, ◌++◌, length, Some, None, Option, refl, sym, ap, ◌∙◌, arith, count_by}
 use Rattle.std.specs.Option.{is_some}
 use Rattle.std.proofs.lemmas.List.Sums.{sum_by-cons, sum_by_push}
 use Rattle.std.proofs.lemmas.Bool.{eqb-true, false≢true}
@@ -82,6 +82,24 @@ live-with n p xs found = count-with (λ q. not (is_idle q)) n p xs found
 pub active-with : (n : ℕ) (p : Phase) (xs : List Session) → is_some (session_called xs n) ≡ true
     → active_queries (with_phase n p xs) + one_if (is_active (phase_of xs n)) ≡ active_queries xs + one_if (is_active p)
 active-with n p xs found = count-with is_active n p xs found
+
+-- an active query is live
+active-turn : (p : Phase) → one_if (is_active p) ≤ one_if (not (is_idle p))
+active-turn phase.Idle = omega arith
+active-turn phase.Waiting = omega arith
+active-turn phase.Running = omega arith
+active-turn (phase.Ended end) = omega arith
+
+pub active-live : (xs : List Session) → active_queries xs ≤ live_queries xs
+active-live [] = omega arith
+active-live (x ∷ xs) =
+    omega (
+      arith,
+      active-turn x.phase,
+      active-live xs,
+      sum_by-cons (λ (z : Session). cond (is_active z.phase) 1 0) x xs,
+      sum_by-cons (λ (z : Session). cond (not (is_idle z.phase)) 1 0) x xs,
+    )
 
 -- a new idle session changes no phase and no number of live queries
 pub phase_of-push : (m : ℕ) (xs : List Session) (y : Session) → y.phase ≡ phase.Idle → phase_of (xs ++ y ∷ []) m ≡ phase_of xs m

@@ -131,3 +131,13 @@ found_single test [] rest w y passes few found =
     cc
 found_single test (x ∷ front) rest w y passes few found =
     single-turn test x y w front rest (test x) refl passes few found (found_single test front rest w y passes)
+
+-- no more are counted without one
+count_without-turn : {A : Type 0} (p test : A → Bool) (x : A) (xs : List A) (b : Bool) → count_by p (without test xs) ≤ count_by p xs
+    → count_by p (cond b xs (x ∷ without test xs)) ≤ count_by p (x ∷ xs)
+count_without-turn p test x xs true rest = omega (arith, sum_by-cons (λ z. cond (p z) 1 0) x xs)
+count_without-turn p test x xs false rest = omega (arith, rest, sum_by-cons (λ z. cond (p z) 1 0) x xs, sum_by-cons (λ z. cond (p z) 1 0) x (without test xs))
+
+pub count_without : {A : Type 0} (p test : A → Bool) (xs : List A) → count_by p (without test xs) ≤ count_by p xs
+count_without p test [] = omega arith
+count_without p test (x ∷ xs) = count_without-turn p test x xs (test x) (count_without p test xs)

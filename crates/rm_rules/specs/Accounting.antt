@@ -1,5 +1,5 @@
 -- Use, own bytes, debts, free bytes and accounts.
-use Rattle.std.specs.Prelude.{ℕ, ◌+◌, ◌-◌, List, [], ◌∷◌, ◌++◌, Option, Some, None, find, sum, sum_by, min, if◌then◌else◌}
+use Rattle.std.specs.Prelude.{ℕ, ◌+◌, ◌-◌, List, [], ◌∷◌, ◌++◌, Option, Some, None, find, sum, sum_by, count_by, min, if◌then◌else◌}
 use Rattle.std.specs.List.{zip}
 use Rattle.rm_base.specs.declared.rows.PoolRow.{PoolRow}
 use Rattle.rm_base.specs.declared.entry.Account.{Account}
@@ -16,6 +16,10 @@ grant_in pool r = if same_name r.pool pool then r.grant else 0
 -- what the pool's running queries hold
 abbrev pub used : Name → List Runner → ℕ
 used pool running = sum_by (grant_in pool) running
+
+-- how many queries run in the pool
+abbrev pub running_in : Name → List Runner → ℕ
+running_in pool running = count_by (λ r. same_name r.pool pool) running
 
 -- each pool but GENERAL, with its actual size
 abbrev pub reserves : State → List (PoolRow × ℕ)

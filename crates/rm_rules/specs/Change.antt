@@ -21,13 +21,15 @@ use Rattle.rm_rules.specs.Definitions.{pool_row, user_called, usage}
 use Rattle.rm_rules.specs.Acceptance.{accepted}
 use Rattle.rm_rules.specs.Budget.{is_too_large, too_large}
 use Rattle.rm_rules.specs.Sound.{has_pool}
-use Rattle.rm_rules.specs.State.{State, no_ends, with_choice, is_defined, session_called, session_of, session_pool, with_phase, without_runner, is_idle, is_running, live_queries, counted_entries}
+use Rattle.rm_rules.specs.State.{State, no_ends, with_choice, is_defined, session_called, session_of, session_pool, phase_of, with_phase, without_runner, is_idle, is_running, is_ended, live_queries, counted_entries}
 use Rattle.rm_rules.specs.Accounting.{account_behind}
 
--- the reply to an event: given by its change, or read off the state that is left, for a session's query
+-- the reply to an event: given by its change, or read off the state that is left, for a session's query. An end that is
+-- told to the one who submitted the query is collected with it.
 pub data Answer : Type 0 where
   Says : (reply : Reply) → Answer
   Tells : (session : ℕ) → Answer
+  Collects : (session : ℕ) → Answer
 
 -- what an accepted event does: the state that it makes, its answer, and whether it changes anything
 pub record Change : Type 0 where
@@ -43,6 +45,7 @@ quiet s answer = record { state = s; answer = answer; changed = false }
 abbrev pub is_defining : Answer → Bool
 is_defining (Says reply) = is_defined reply
 is_defining (Tells session) = false
+is_defining (Collects session) = false
 
 -- a list of one item a pool, with one more where there is a pool more
 abbrev pub with_place : {A : Type 0} → Definitions → Definitions → A → List A → List A
@@ -142,7 +145,7 @@ submitted s x pool floor = record {
     waiting = s.waiting ++ new_waiter s x pool floor ∷ [];
     last_query = s.last_query + 1;
   };
-  answer = Tells x.number;
+  answer = Collects x.number;
   changed = true;
 }
 
@@ -242,3 +245,19 @@ told s session = elim (session_called s.sessions session) [ Some x ↦ told_in_p
 abbrev pub reply_of : State → Answer → Reply
 reply_of s (Says reply) = reply
 reply_of s (Tells session) = told s session
+reply_of s (Collects session) = told s session
+
+-- the sessions, of which the one of this number is idle where its query has ended
+abbrev pub without_end : ℕ → List Session → List Session
+without_end session sessions = if is_ended (phase_of sessions session) then with_phase session phase.Idle sessions else sessions
+
+-- the state in which the answer has been given
+abbrev pub answered : State → Answer → State
+answered s (Says reply) = s
+answered s (Tells session) = s
+answered s (Collects session) = record s { sessions = without_end session s.sessions }
+
+-- an event as it is tried: one that is refused changes nothing
+abbrev pub tried : State → Result Change Refusal → Change
+tried s (Err refusal) = quiet s (Says (reply.Refused refusal))
+tried s (Ok c) = c

@@ -52,7 +52,7 @@ pub record IsConserved (s : State) : Type 0 where
 -- an event changes no grant, and takes none away but that a Finish takes its own, whole
 abbrev pub KeepsGrants : State → State → Event → Type 0
 KeepsGrants old new (Finish session) =
-    (new.running ≡ old.running) ⊎ ((more : List Runner) × (new.running ≡ without_runner session old.running ++ more))
+    ((more : List Runner) × (new.running ≡ old.running ++ more)) ⊎ ((more : List Runner) × (new.running ≡ without_runner session old.running ++ more))
 KeepsGrants old new _ = (more : List Runner) × (new.running ≡ old.running ++ more)
 
 -- the memory in force rises only where a statement raises the total

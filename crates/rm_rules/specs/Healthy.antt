@@ -1,5 +1,5 @@
 -- What every state of the machine keeps.
-use Rattle.std.specs.Prelude.{◌≡◌, ℕ, ◌+◌, ◌*◌, ◌<◌, ◌≤◌, Bool, true, ◌==◌, length, sum, sum_by, count_by, if◌then◌else◌}
+use Rattle.std.specs.Prelude.{◌≡◌, ℕ, ◌+◌, ◌-◌, ◌*◌, ◌<◌, ◌≤◌, Bool, true, ◌==◌, length, sum, sum_by, count_by, if◌then◌else◌}
 use Rattle.std.specs.List.{list_all}
 use Rattle.rm_base.specs.declared.limits.TheConstants.{SESSIONS_MOST, ENTRIES_A_QUERY, ENTRIES_A_SESSION}
 use Rattle.rm_rules.specs.Definitions.{total, user_pools}
@@ -42,10 +42,11 @@ pub record AreNumbered (s : State) : Type 0 where
   pub once : (n : ℕ) → count_by (λ w. w.query == n) s.waiting + count_by (λ r. r.query == n) s.running ≤ 1
   pub given : (n : ℕ) → s.last_query < n → count_by (λ w. w.query == n) s.waiting + count_by (λ r. r.query == n) s.running ≡ 0
 
--- The journal has room for so many entries, and for those that live queries and open sessions may still make. Only
--- accepted statements come on top, with so many more of them accepted, and the numbers last given are within its length.
+-- The journal has room for so many entries, and for those that live queries and open sessions may still make; a query
+-- that has ended in its queue may have made one with that. Only accepted statements come on top, with so many more of
+-- them accepted, and the numbers last given are within its length.
 pub record HasRoom (entries statements : ℕ) (s : State) : Type 0 where
-  pub kept : counted_entries s.journal + entries + ENTRIES_A_QUERY * live_queries s.sessions + ENTRIES_A_SESSION * length s.sessions ≤ s.room
+  pub kept : counted_entries s.journal + entries + (ENTRIES_A_QUERY - 1) * live_queries s.sessions + active_queries s.sessions + ENTRIES_A_SESSION * length s.sessions ≤ s.room
   pub defined : length s.journal + statements ≤ counted_entries s.journal + s.definitions.changes
   pub sessions : s.last_session ≤ counted_entries s.journal + entries
   pub queries : s.last_query ≤ counted_entries s.journal + entries

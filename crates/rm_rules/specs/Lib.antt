@@ -4,9 +4,11 @@ pub mod State
 pub mod Accounting
 pub mod Admission
 pub mod Shuffle
+pub mod Deadlines
 pub mod Settle
 pub mod Change
 pub mod Step
+pub mod Settled
 pub mod Sound
 pub mod Acceptance
 pub mod Healthy

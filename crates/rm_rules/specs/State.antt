@@ -130,6 +130,13 @@ is_waiting phase.Waiting = true
 is_waiting phase.Running = false
 is_waiting (phase.Ended end) = false
 
+-- the session's query has ended, and nobody has collected the end
+abbrev pub is_ended : Phase → Bool
+is_ended phase.Idle = false
+is_ended phase.Waiting = false
+is_ended phase.Running = false
+is_ended (phase.Ended end) = true
+
 -- the session's query waits or runs
 abbrev pub is_active : Phase → Bool
 is_active phase.Idle = false

@@ -1,16 +1,15 @@
 -- One event of the pool machine, and histories of events.
-use Rattle.std.specs.Prelude.{◌≡◌, ℕ, Bool, true, false, ◌==◌, List, [], ◌∷◌, ◌++◌, Result, Ok, Err, max, filter, if◌then◌else◌}
+use Rattle.std.specs.Prelude.{◌≡◌, ℕ, Bool, true, false, ◌||◌, ◌==◌, List, [], ◌∷◌, ◌++◌, is_some, max, filter, if◌then◌else◌}
 use Rattle.rm_base.specs.declared.entry.Entry.{Entry}
 use Rattle.rm_base.specs.declared.event.Event.{Event}
 use Rattle.rm_base.specs.declared.event.Event.TheVariants.{Define}
 use Rattle.rm_base.specs.Ranges.{is_statement_in_range}
-use Rattle.rm_base.specs.declared.refusal.Refusal.{Refusal}
 use Rattle.rm_base.specs.declared.reply.Reply.{Reply}
-use Rattle.rm_base.specs.declared.reply.Reply.TheVariants as reply
 use Rattle.rm_rules.specs.State.{State}
 use Rattle.rm_rules.specs.Acceptance.{is_pool_statement}
 use Rattle.rm_rules.specs.Settle.{settled}
-use Rattle.rm_rules.specs.Change.{Change, change, reply_of}
+use Rattle.rm_rules.specs.Change.{Answer, Change, change, reply_of, answered, tried}
+use Rattle.rm_rules.specs.Deadlines.{first_due, without_due}
 
 -- what an event leaves, what is replied, and whether it made an entry
 pub record Outcome : Type 0 where
@@ -26,11 +25,11 @@ noted seat moment event answer = record { seat = seat; at = moment; event = even
 abbrev pub recorded : State → Entry → State
 recorded s entry = record s { journal = s.journal ++ entry ∷ [] }
 
--- what follows an event that changed something: it settles, and the entry is made
-abbrev pub accepted : ℕ → Event → State → Reply → Outcome
+-- an event that changed something: the state has settled, the answer is given, and the entry is made
+abbrev pub accepted : ℕ → Event → State → Answer → Outcome
 accepted seat event s answer = record {
-  state = recorded s (noted seat s.clock event answer);
-  reply = answer;
+  state = recorded (answered s answer) (noted seat s.clock event (reply_of s answer));
+  reply = reply_of s answer;
   entry = true;
 }
 
@@ -38,20 +37,31 @@ accepted seat event s answer = record {
 abbrev pub quietly : State → Reply → Outcome
 quietly s answer = record { state = s; reply = answer; entry = false }
 
--- the outcome of a change, or of a refusal
-abbrev pub outcome : State → ℕ → Event → Result Change Refusal → Outcome
-outcome s seat event (Err refusal) = quietly s (reply.Refused refusal)
-outcome s seat event (Ok c) =
-    if c.changed then accepted seat event (settled c.state) (reply_of (settled c.state) c.answer)
+-- the outcome of an event at a state, for which deadlines have acted or none, and then this change
+abbrev pub outcome : State → Bool → ℕ → Event → Change → Outcome
+outcome s timed seat event c =
+    if timed || c.changed then accepted seat event (settled c.state) c.answer
     else quietly s (reply_of c.state c.answer)
 
 -- the state at the later of its clock and the moment that was handed in
 abbrev pub moved_to : State → ℕ → State
 moved_to s at = record s { clock = max s.clock at }
 
--- one event of the machine
+-- some query's deadline has come by the moment
+abbrev pub has_due : State → ℕ → Bool
+has_due s at = is_some (first_due (moved_to s at))
+
+-- the state as the event finds it: at the moment, and after the deadlines
+abbrev pub found_at : State → ℕ → State
+found_at s at = without_due (moved_to s at)
+
+-- what an event of this seat does there
+abbrev pub attempted : State → ℕ → Event → Change
+attempted s seat event = tried s (change s seat event)
+
+-- one event of the machine: deadlines, its refusals or its change, and settling
 abbrev pub step : State → ℕ → ℕ → Event → Outcome
-step s seat at event = outcome s seat event (change (moved_to s at) seat event)
+step s seat at event = outcome s (has_due s at) seat event (attempted (found_at s at) seat event)
 
 -- the entry that an event makes, or none
 abbrev pub made : State → ℕ → ℕ → Event → List Entry

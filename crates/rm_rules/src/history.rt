@@ -1,6 +1,6 @@
 //! The laws over all histories. Each is the contract of a function that does nothing.
 
-ghost use Rattle.std.specs.Prelude.{◌≡◌, ℕ, ◌≤◌, ◌++◌, true, false, List, Some};
+ghost use Rattle.std.specs.Prelude.{◌≡◌, ℕ, ◌≤◌, ◌++◌, true, false, List, [], Some, None};
 ghost use Rattle.rm_base.specs.declared.definitions.Definitions.{Definitions};
 ghost use Rattle.rm_base.specs.declared.entry.Entry.{Entry};
 ghost use Rattle.rm_base.specs.declared.event.Event.{Event};
@@ -10,9 +10,11 @@ ghost use Rattle.rm_rules.specs.Budget.{cap};
 ghost use Rattle.rm_rules.specs.State.{State, start};
 ghost use Rattle.rm_rules.specs.Accounting.{used};
 ghost use Rattle.rm_rules.specs.Admission.{first_entitled, admitted};
+ghost use Rattle.rm_rules.specs.Settle.{settled};
+ghost use Rattle.rm_rules.specs.Settled.{IsSettled};
 ghost use Rattle.rm_rules.specs.Step.{step, made, replay, IsFormed, IsLegal, IsSameButClock};
 ghost use Rattle.rm_rules.specs.Sound.{IsSound};
-ghost use Rattle.rm_rules.specs.Healthy.{IsHealthy};
+ghost use Rattle.rm_rules.specs.Healthy.{IsHeld, IsHealthy};
 ghost use Rattle.rm_rules.specs.Conserved.{ConservedAfterEach, KeepsGrants, RaisesForce};
 
 /// Every state that a legal history leaves, from sound definitions on, is healthy.
@@ -77,4 +79,44 @@ pub fn only_changes_make_entries()
     ensures none { (s : State) (seat at : ℕ) (event : Event)
         → (step s seat at event).entry ≡ false
         → (step s seat at event).state ≡ s }
+{}
+
+/// Settling twice is settling once, and after every event nothing is left to settle.
+pub fn settling_twice_is_settling_once()
+    ensures twice { (s : State)
+        → IsSound s.definitions
+        → IsHeld s
+        → settled (settled s) ≡ settled s }
+    ensures step { (s : State) (seat at : ℕ) (event : Event)
+        → IsHealthy s
+        → IsFormed event
+        → IsSettled s
+        → IsSettled (step s seat at event).state }
+    ensures histories { (d : Definitions) (room : ℕ) (entries : List Entry)
+        → IsSound d
+        → IsLegal (start d room) entries
+        → settled (replay (start d room) entries) ≡ replay (start d room) entries }
+{}
+
+/// After every event no head is entitled.
+pub fn no_head_is_left_entitled()
+    ensures { (d : Definitions) (room : ℕ) (entries : List Entry)
+        → IsSound d
+        → IsLegal (start d room) entries
+        → first_entitled (replay (start d room) entries) ≡ None }
+{}
+
+/// An idle host has no queue: after every event, where no query runs, none waits.
+pub fn an_idle_host_has_no_queue()
+    ensures step { (s : State) (seat at : ℕ) (event : Event)
+        → IsHealthy s
+        → IsFormed event
+        → (s.running ≡ [] → s.waiting ≡ [])
+        → (step s seat at event).state.running ≡ []
+        → (step s seat at event).state.waiting ≡ [] }
+    ensures histories { (d : Definitions) (room : ℕ) (entries : List Entry)
+        → IsSound d
+        → IsLegal (start d room) entries
+        → (replay (start d room) entries).running ≡ []
+        → (replay (start d room) entries).waiting ≡ [] }
 {}

@@ -3,4 +3,6 @@
 
 pub mod acceptance;
 pub mod history;
+pub mod room;
+pub mod rows;
 pub mod state;

@@ -3,7 +3,7 @@ use Rattle.accounts.specs.declared.holdings.Grant.{Grant}
 use Rattle.accounts.specs.Accounts.{AccountsState, is_of}
 use Rattle.accounts.specs.Kept.{IsKept}
 use Rattle.accounts.proofs.Keeping.{kept_given_back}
-use Rattle.accounts.proofs.Places.{without-found}
+use Rattle.rm_rules.proofs.Places.{without-found}
 use Rattle.accounts.proofs.Seen.{given-seen, given-absent, grant-found, grant-absent}
 use Rattle.accounts.proofs.holdings.Accounts.give_back.Goals as goal
 

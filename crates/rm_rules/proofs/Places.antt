@@ -1,5 +1,5 @@
--- The first place in a list at which a test passes, and what stands there.
-use Rattle.std.proofs.Common.{◌≡◌, ◌≤◌, ◌<◌, ℕ, ◌+◌, suc, Bool, true, false, cond, not, ltb, Option, Some, None, List, [], ◌∷◌, length, get_or, take, take_while, find, refl, ap, sym, ◌∙◌, arith, remove, position}
+-- The first place in a list at which a test passes, what stands there, and what is done there.
+use Rattle.std.proofs.Common.{◌≡◌, ◌≤◌, ◌<◌, ℕ, ◌+◌, suc, Bool, true, false, cond, not, ltb, Option, Some, None, List, [], ◌∷◌, length, get_or, take, take_while, find, refl, ap, sym, ◌∙◌, arith, remove, position, set}
 use Rattle.std.specs.List.{position_or_len}
 use Rattle.std.proofs.lemmas.Bool.Decides.{nat_tests}
 use Rattle.rm_rules.specs.State.{without}
@@ -17,15 +17,15 @@ within-turn : (b : Bool) (n i : ℕ) → cond b (Some n) None ≡ Some i → b �
 within-turn true n i e = refl
 within-turn false n i e = absurd (cc)
 
-position-within : {A : Type 0} (test : A → Bool) (xs : List A) (i : ℕ) → position test xs ≡ Some i → position_or_len test xs < length xs
+pub position-within : {A : Type 0} (test : A → Bool) (xs : List A) (i : ℕ) → position test xs ≡ Some i → position_or_len test xs < length xs
 position-within test xs i found =
     let e : ltb (position_or_len test xs) (length xs) ≡ true = within-turn (ltb (position_or_len test xs) (length xs)) (position_or_len test xs) i found in
     grind (arith, nat_tests)
 
-position-is : {A : Type 0} (test : A → Bool) (xs : List A) (i : ℕ) → position test xs ≡ Some i → position_or_len test xs ≡ i
+pub position-is : {A : Type 0} (test : A → Bool) (xs : List A) (i : ℕ) → position test xs ≡ Some i → position_or_len test xs ≡ i
 position-is test xs i found = found-turn (ltb (position_or_len test xs) (length xs)) (position_or_len test xs) i found
 
-position-past : {A : Type 0} (test : A → Bool) (xs : List A) → let o : Option ℕ = None in position test xs ≡ o → length xs ≤ position_or_len test xs
+pub position-past : {A : Type 0} (test : A → Bool) (xs : List A) → let o : Option ℕ = None in position test xs ≡ o → length xs ≤ position_or_len test xs
 position-past test xs absent =
     let past : ltb (position_or_len test xs) (length xs) ≡ false = absent-turn (ltb (position_or_len test xs) (length xs)) (position_or_len test xs) absent in
     grind (arith, nat_tests)
@@ -88,3 +88,39 @@ find-absent test xs absent = find-none test xs (position-past test xs absent)
 -- what stands before the one that was found
 pub before-found : {A : Type 0} (test : A → Bool) (xs : List A) (i : ℕ) → position test xs ≡ Some i → take_while (λ x. not (test x)) xs ≡ take i xs
 before-found test xs i found = ap (λ n. take n xs) (position-is test xs i found)
+
+-- the list with the first that passes the test changed
+abbrev pub changed_first : {A : Type 0} → (A → Bool) → (A → A) → List A → List A
+changed_first test act [] = []
+changed_first test act (x ∷ xs) = cond (test x) (act x ∷ xs) (x ∷ changed_first test act xs)
+
+changed-turn : {A : Type 0} (test : A → Bool) (act : A → A) (x : A) (xs : List A) (d : A) (b : Bool)
+    → (position_or_len test xs < length xs → changed_first test act xs ≡ set xs (position_or_len test xs) (act (get_or xs (position_or_len test xs) d)))
+    → cond (not b) (1 + position_or_len test xs) 0 < length (x ∷ xs)
+    → cond b (act x ∷ xs) (x ∷ changed_first test act xs) ≡ set (x ∷ xs) (cond (not b) (1 + position_or_len test xs) 0) (act (get_or (x ∷ xs) (cond (not b) (1 + position_or_len test xs) 0) d))
+changed-turn test act x xs d true rest within = refl
+changed-turn test act x xs d false rest within =
+    let e : 1 + position_or_len test xs ≡ suc (position_or_len test xs) = omega arith in
+    rw e (ap (λ ys. x ∷ ys) (rest (omega arith)))
+
+changed-first : {A : Type 0} (test : A → Bool) (act : A → A) (xs : List A) (d : A) → position_or_len test xs < length xs
+    → changed_first test act xs ≡ set xs (position_or_len test xs) (act (get_or xs (position_or_len test xs) d))
+changed-first test act [] d within = absurd (omega arith)
+changed-first test act (x ∷ xs) d within = changed-turn test act x xs d (test x) (changed-first test act xs d) within
+
+pub changed-found : {A : Type 0} (test : A → Bool) (act : A → A) (xs : List A) (d : A) (i : ℕ) → position test xs ≡ Some i → changed_first test act xs ≡ set xs i (act (get_or xs i d))
+changed-found test act xs d i found =
+    changed-first test act xs d (position-within test xs i found) ∙ ap (λ (k : ℕ). set xs k (act (get_or xs k d))) (position-is test xs i found)
+
+changed-none-turn : {A : Type 0} (test : A → Bool) (act : A → A) (x : A) (xs : List A) (b : Bool) → (length xs ≤ position_or_len test xs → changed_first test act xs ≡ xs)
+    → length (x ∷ xs) ≤ cond (not b) (1 + position_or_len test xs) 0 → cond b (act x ∷ xs) (x ∷ changed_first test act xs) ≡ x ∷ xs
+changed-none-turn test act x xs true rest past = absurd (omega arith)
+changed-none-turn test act x xs false rest past = ap (λ ys. x ∷ ys) (rest (omega arith))
+
+changed-none : {A : Type 0} (test : A → Bool) (act : A → A) (xs : List A) → length xs ≤ position_or_len test xs → changed_first test act xs ≡ xs
+changed-none test act [] past = refl
+changed-none test act (x ∷ xs) past = changed-none-turn test act x xs (test x) (changed-none test act xs) past
+
+pub changed-absent : {A : Type 0} (test : A → Bool) (act : A → A) (xs : List A) → let o : Option ℕ = None in position test xs ≡ o → changed_first test act xs ≡ xs
+changed-absent test act xs absent =
+    changed-none test act xs (position-past test xs absent)
