@@ -1,0 +1,12 @@
+//! The queue: the waiting queries in the order in which they joined, and which of them is next to end or to be admitted.
+#![tactic(auto)]
+
+mod deadlines;
+mod heads;
+pub mod laws;
+mod waiting;
+
+pub use crate::waiting::Queue;
+
+#[cfg(test)]
+mod tests;
