@@ -1,14 +1,13 @@
 -- The counters, where a query of a pool has ended.
-use Rattle.std.proofs.Common.{◌≡◌, ◌<◌, ◌≤◌, ℕ, ◌+◌, suc, Bool, true, false, cond, not, ltb, Option, Some, None, List, [], ◌∷◌, length, get_or, refl, ap, ◌∙◌, arith, position, set}
+use Rattle.std.proofs.Common.{◌≡◌, ◌<◌, ◌≤◌, ℕ, ◌+◌, suc, Bool, true, false, cond, not, Option, Some, None, List, [], ◌∷◌, length, get_or, refl, ap, ◌∙◌, arith, position, set}
 use Rattle.std.specs.List.{position_or_len}
-use Rattle.std.proofs.lemmas.Bool.Decides.{nat_tests}
 use Rattle.rm_base.specs.declared.entry.EndCounts.{EndCounts}
 use Rattle.rm_base.specs.declared.name.Name.{Name}
 use Rattle.rm_base.specs.declared.reply.End.{End}
 use Rattle.rm_base.specs.declared.rows.PoolRow.{PoolRow}
 use Rattle.rm_base.specs.Name.{same_name}
 use Rattle.rm_rules.specs.State.{with_one_end, with_end}
-use Rattle.machine.proofs.Places.{found-turn, absent-turn, position-within}
+use Rattle.rm_rules.proofs.Places.{position-within, position-is, position-past}
 
 -- the place of the pool
 abbrev place : Name → List PoolRow → ℕ
@@ -33,7 +32,7 @@ end-first (r ∷ rs) pool end (c ∷ cs) d sizes within =
 pub with_end-found : (rs : List PoolRow) (pool : Name) (end : End) (cs : List EndCounts) (d : EndCounts) (i : ℕ) → length cs ≡ length rs → position (λ r. same_name r.name pool) rs ≡ Some i
     → with_end rs pool end cs ≡ set cs i (with_one_end end (get_or cs i d))
 with_end-found rs pool end cs d i sizes found =
-    let same : place pool rs ≡ i = found-turn (ltb (place pool rs) (length rs)) (place pool rs) i found in
+    let same : place pool rs ≡ i = position-is (λ r. same_name r.name pool) rs i found in
     end-first rs pool end cs d sizes (position-within (λ r. same_name r.name pool) rs i found) ∙ ap (λ (k : ℕ). set cs k (with_one_end end (get_or cs k d))) same
 
 none-turn : (r : PoolRow) (rs : List PoolRow) (pool : Name) (end : End) (c : EndCounts) (cs : List EndCounts) (b : Bool) → (length rs ≤ place pool rs → with_end rs pool end cs ≡ cs)
@@ -48,5 +47,4 @@ end-none (r ∷ rs) pool end (c ∷ cs) sizes past = none-turn r rs pool end c c
 
 pub with_end-absent : (rs : List PoolRow) (pool : Name) (end : End) (cs : List EndCounts) → length cs ≡ length rs → (let o : Option ℕ = None in position (λ r. same_name r.name pool) rs ≡ o) → with_end rs pool end cs ≡ cs
 with_end-absent rs pool end cs sizes absent =
-    let past : ltb (place pool rs) (length rs) ≡ false = absent-turn (ltb (place pool rs) (length rs)) (place pool rs) absent in
-    end-none rs pool end cs sizes (grind (arith, nat_tests))
+    end-none rs pool end cs sizes (position-past (λ r. same_name r.name pool) rs absent)

@@ -1,7 +1,6 @@
 pub mod Places
 pub mod Ends
 pub mod Seen
-pub mod Heads
 pub mod Looking
 pub mod Adding
 pub mod Settling

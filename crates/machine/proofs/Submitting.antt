@@ -10,12 +10,15 @@ use Rattle.rm_base.specs.declared.refusal.Refusal.TheVariants as refusal
 use Rattle.rm_rules.specs.declared.state.Phase.{Phase}
 use Rattle.rm_rules.specs.declared.state.Phase.TheVariants as phase
 use Rattle.rm_rules.specs.declared.state.Session.{Session}
+use Rattle.rm_rules.specs.declared.state.Waiter.{Waiter}
 use Rattle.rm_rules.specs.Definitions.{pool_row, user_called, usage}
 use Rattle.rm_rules.specs.Budget.{is_too_large, too_large}
 use Rattle.rm_rules.specs.State.{State, session_called, is_idle, is_active, live_queries}
 use Rattle.rm_rules.specs.Change.{Answer, Change, is_journal_full, submitted, submitting_to}
-use Rattle.rm_rules.specs.Healthy.{AreInPhase}
+use Rattle.rm_rules.specs.Healthy.{AreInPhase, AreNumbered}
+use Rattle.pool_queue.specs.Queue.{has_query}
 use Rattle.machine.specs.Refusals.{user_refusal, size_refusal}
+use Rattle.machine.proofs.Settling.{none-any}
 
 -- one refusal of a chain, and the rest of it
 unless-some : (b : Bool) (e r : Refusal) (o : Option Refusal) (k : Result Change Refusal) → cond b (Some e) o ≡ Some r → (o ≡ Some r → k ≡ Err r) → cond b (Err e) k ≡ Err r
@@ -98,3 +101,9 @@ change-parts c t a state answer changed =
     let second = ap (λ (b : Answer). let d : Change = record { state = t; answer = b; changed = c.changed } in d) (sym answer) in
     let third = ap (λ (b : Bool). let d : Change = record { state = t; answer = a; changed = b } in d) changed in
     ap (λ (d : Change). let x : Result Change Refusal = Ok d in x) (first ∙ second ∙ third)
+
+-- the number that comes next waits nowhere
+pub next-absent : (s : State) → AreNumbered s → has_query s.waiting (s.last_query + 1) ≡ false
+next-absent s h =
+    let none = h.given (s.last_query + 1) (omega arith) in
+    none-any (λ (w : Waiter). nat_eq w.query (s.last_query + 1)) s.waiting (omega (arith, none))

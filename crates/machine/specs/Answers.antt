@@ -7,11 +7,12 @@ use Rattle.rm_rules.specs.Accounting.{account_behind}
 use Rattle.machine.specs.declared.told.Done.{Done}
 use Rattle.machine.specs.declared.told.Told.{Told}
 use Rattle.machine.specs.declared.told.Told.TheVariants as told
-use Rattle.rm_rules.specs.Change.{Answer, Says, Tells, Change}
+use Rattle.rm_rules.specs.Change.{Answer, Says, Tells, Collects, Change}
 
 abbrev pub answer_of : Told → Answer
 answer_of (told.Says reply) = Says reply
 answer_of (told.Tells session) = Tells session
+answer_of (told.Collects session) = Collects session
 
 -- the change to this state, with this answer
 abbrev pub change_to : State → Done → Change

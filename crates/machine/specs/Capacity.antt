@@ -13,7 +13,7 @@ seen m = record {
   actual = m.accounts.actual;
   sessions = m.sessions.items;
   running = m.running.items;
-  waiting = m.waiting.items;
+  waiting = m.waiting;
   clock = m.clock;
   counters = m.counters.items;
   moves = m.moves.items;
@@ -28,7 +28,6 @@ seen m = record {
 pub record HasCapacity (m : Inside) : Type 0 where
   pub sessions : SESSIONS_MOST ≤ vec_capacity m.sessions
   pub running : SESSIONS_MOST ≤ vec_capacity m.running
-  pub waiting : SESSIONS_MOST ≤ vec_capacity m.waiting
   pub counters : POOLS_MOST ≤ vec_capacity m.counters
   pub moves : MOVES_KEPT ≤ vec_capacity m.moves
   pub journal : m.room + ENTRIES_BEYOND + CHANGES_MOST ≤ vec_capacity m.journal

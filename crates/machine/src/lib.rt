@@ -3,9 +3,9 @@
 
 mod asks;
 mod counters;
+mod deadlines;
 pub mod desk;
 mod machine;
-mod queue;
 mod sessions;
 mod told;
 mod users;

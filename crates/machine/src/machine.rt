@@ -4,8 +4,9 @@ ghost use Rattle.rm_base.specs.declared.limits.TheConstants.{POOLS_MOST, CHANGES
 ghost use Rattle.rm_rules.specs.State.{no_ends, is_defined};
 
 use crate::counters::none_ended;
-use crate::told::Told;
+use crate::told::{Done, Told};
 use accounts::Accounts;
+use pool_queue::Queue;
 use rm_base::definitions::Definitions;
 use rm_base::entry::{Answered, EndCounts, Entry, MoveSeen};
 use rm_base::event::Event;
@@ -13,12 +14,13 @@ use rm_base::limits::{CHANGES_MOST, MOVES_KEPT, POOLS_MOST, SESSIONS_MOST};
 use rm_base::moment::Moment;
 use rm_base::reply::Reply;
 use rm_base::rows::PoolRow;
-use rm_rules::state::{Runner, Session, Waiter};
+use rm_rules::state::{Runner, Session};
 use std::alloc::{AllocError, Global};
 use std::marker::Model;
 
 mod choosing;
 mod defining;
+mod ends;
 mod events;
 mod fit;
 mod look;
@@ -38,7 +40,7 @@ pub struct Machine {
     accounts: Accounts,
     sessions: Vec<Session>,
     running: Vec<Runner>,
-    waiting: Vec<Waiter>,
+    waiting: Queue,
     clock: Moment,
     counters: Vec<EndCounts>,
     moves: Vec<MoveSeen>,
@@ -85,10 +87,10 @@ impl Machine {
     ghost use Rattle.rm_rules.specs.State.{start, counted_entries};
     ghost use Rattle.rm_rules.specs.Change.{reply_of};
     ghost use Rattle.rm_rules.specs.Settle.{settled};
-    ghost use Rattle.rm_rules.specs.Step.{moved_to, recorded, accepted, step, IsFormed};
+    ghost use Rattle.rm_rules.specs.Step.{moved_to, recorded, accepted, attempted, step, IsFormed};
     ghost use Rattle.rm_rules.specs.Sound.{IsSound};
     ghost use Rattle.rm_rules.specs.Healthy.{IsHealthy, IsUnsettled};
-    ghost use Rattle.machine.specs.Answers.{answer_of};
+    ghost use Rattle.machine.specs.Answers.{answer_of, change_to};
 
     /// The machine at the start. It takes all memory that it will ever use.
     pub fn new(alloc: Global, definitions: Definitions, room: u32) -> Result<Machine, AllocError>
@@ -103,7 +105,7 @@ impl Machine {
             accounts,
             sessions: Vec::with_capacity(alloc, SESSIONS_MOST)?,
             running: Vec::with_capacity(alloc, SESSIONS_MOST)?,
-            waiting: Vec::with_capacity(alloc, SESSIONS_MOST)?,
+            waiting: Queue::new(alloc)?,
             clock: Moment::of(0),
             counters,
             moves: Vec::with_capacity(alloc, MOVES_KEPT)?,
@@ -166,17 +168,17 @@ impl Machine {
         self.journal.push_reserved(entry);
     }
 
-    /// What changed settles, and the entry is made.
+    /// What changed settles, the answer is given, and the entry is made.
     fn accept(&mut self, seat: u32, event: &Event, told: Told) -> Answered
         requires { IsUnsettled (answer_of told) self.old }
-        ensures state { let s = settled self.old in
-            self.new ≡ (accepted seat event.now s (reply_of s (answer_of told))).state }
+        ensures state { self.new ≡ (accepted seat event.now (settled self.old) (answer_of told)).state }
         ensures reply { result.reply ≡ reply_of (settled self.old) (answer_of told) }
         ensures entry { result.entry ≡ true }
         ensures place { result.place ≡ length self.new.journal }
     {
         self.settle();
         let reply = self.reply_of(told);
+        self.answered(told);
         self.record_entry(Entry {
             seat,
             at: self.clock,
@@ -202,7 +204,22 @@ impl Machine {
         self.leave(before, reply)
     }
 
-    /// One event.
+    /// What the event does as the state stands; one that is refused changes nothing.
+    fn attempt(&mut self, seat: u32, event: &Event) -> Done
+        requires healthy { IsHealthy self.old }
+        requires formed { IsFormed event.now }
+        ensures { attempted self.old seat event.now ≡ change_to self.new result }
+    {
+        match self.change(seat, event) {
+            Ok(done) => done,
+            Err(refusal) => Done {
+                told: Told::Says(Reply::Refused(refusal)),
+                changed: false,
+            },
+        }
+    }
+
+    /// One event: deadlines, what the event does, and what follows where anything has changed.
     pub fn apply(&mut self, seat: u32, at: Moment, event: &Event) -> Answered
         requires healthy { IsHealthy self.old }
         requires formed { IsFormed event.now }
@@ -212,15 +229,12 @@ impl Machine {
         ensures place { result.place ≡ length self.new.journal }
     {
         let before = self.move_to(at);
-        match self.change(seat, event) {
-            Ok(done) => {
-                if done.changed {
-                    self.accept(seat, event, done.told)
-                } else {
-                    self.answer(before, done.told)
-                }
-            }
-            Err(refusal) => self.leave(before, Reply::Refused(refusal)),
+        let timed = self.end_due();
+        let done = self.attempt(seat, event);
+        if timed || done.changed {
+            self.accept(seat, event, done.told)
+        } else {
+            self.answer(before, done.told)
         }
     }
 }

@@ -1,7 +1,7 @@
 //! Sessions, and the queries of a session.
 ghost use Rattle.std.specs.Prelude.{◌≡◌, ◌<◌, ◌≤◌, ◌+◌, ◌^◌, ◌==◌, IfSome, position, length, vec_capacity};
-ghost use Rattle.rm_rules.specs.State.{session_called, with_phase, with_choice, without_waiter, without_runner, is_idle, is_running, live_queries};
-ghost use Rattle.rm_rules.specs.Change.{has_chosen, runner_of, waiter_of, place_of};
+ghost use Rattle.rm_rules.specs.State.{session_called, phase_of, with_phase, with_choice, without_runner, is_idle, is_running, is_ended, live_queries};
+ghost use Rattle.rm_rules.specs.Change.{has_chosen, runner_of, waiter_of};
 
 use rm_base::name::Name;
 use rm_rules::state::{Phase, Runner, Session, Waiter};
@@ -31,6 +31,27 @@ pub fn is_running(phase: Phase) -> bool
         Phase::Waiting => false,
         Phase::Running => true,
         Phase::Ended(_) => false,
+    }
+}
+
+pub fn is_ended(phase: Phase) -> bool
+    ensures { result ≡ is_ended phase }
+{
+    match phase {
+        Phase::Idle => false,
+        Phase::Waiting => false,
+        Phase::Running => false,
+        Phase::Ended(_) => true,
+    }
+}
+
+/// The phase of the session of this number; one that is not open has no query.
+pub fn phase_of(sessions: &[Session], number: u32) -> Phase
+    ensures { result ≡ phase_of sessions.now number }
+{
+    match session_called(sessions, number) {
+        Some(x) => x.phase,
+        None => Phase::Idle,
     }
 }
 
@@ -88,36 +109,11 @@ pub fn waiter_of(waiting: &[Waiter], session: u32) -> Option<Waiter>
     waiting.iter().copied().find(|w| w.session == session)
 }
 
-fn place_of_waiter(waiting: &[Waiter], session: u32) -> Option<usize>
-    ensures value { result ≡ position (λ w. w.session == session) waiting.now }
-    ensures within { IfSome result (λ place. place < length waiting.now) }
-{
-    waiting.iter().position(|w| w.session == session)
-}
-
 fn place_of_runner(running: &[Runner], session: u32) -> Option<usize>
     ensures value { result ≡ position (λ r. r.session == session) running.now }
     ensures within { IfSome result (λ place. place < length running.now) }
 {
     running.iter().position(|r| r.session == session)
-}
-
-/// The place of the session's query in the queue, counted from 1.
-pub fn place_of(waiting: &[Waiter], session: u32) -> usize
-    requires { length waiting.now < 2 ^ 63 }
-    ensures { result ≡ place_of waiting.now session }
-{
-    place_of_waiter(waiting, session).unwrap_or(waiting.len()) + 1
-}
-
-/// Takes the session's query out of the queue.
-pub fn take_waiter(waiting: &mut Vec<Waiter>, session: u32)
-    ensures items { waiting.new.items ≡ without_waiter session waiting.old.items }
-    ensures room { vec_capacity waiting.new ≡ vec_capacity waiting.old }
-{
-    if let Some(place) = place_of_waiter(waiting, session) {
-        waiting.remove(place);
-    }
 }
 
 /// Takes the session's query out of those that run.

@@ -2,29 +2,12 @@
 ghost use Rattle.std.specs.Prelude.{◌≡◌};
 ghost use Rattle.std.specs.List.{list_any};
 ghost use Rattle.rm_base.specs.Name.{same_name, general, dbadmin};
-ghost use Rattle.rm_rules.specs.Definitions.{pool_called, user_called, role_called, is_member_by, is_member, gives_usage, usage, pool_by_role, role_pool, default_pool};
+ghost use Rattle.rm_rules.specs.Definitions.{pool_called, pool_row, user_called, role_called, is_member_by, is_member, gives_usage, usage, pool_by_role, role_pool, default_pool};
 
 use rm_base::definitions::Definitions;
 use rm_base::name::Name;
-use rm_base::rows::{GrantRow, PoolRow, RoleRow, UserRow};
-
-pub fn pool_called(pools: &[PoolRow], name: Name) -> Option<PoolRow>
-    ensures { result ≡ pool_called pools.now name }
-{
-    pools.iter().copied().find(|r| r.name.same(name))
-}
-
-pub fn user_called(users: &[UserRow], name: Name) -> Option<UserRow>
-    ensures { result ≡ user_called users.now name }
-{
-    users.iter().copied().find(|r| r.name.same(name))
-}
-
-fn role_called(roles: &[RoleRow], name: Name) -> Option<RoleRow>
-    ensures { result ≡ role_called roles.now name }
-{
-    roles.iter().copied().find(|r| r.name.same(name))
-}
+use rm_base::rows::{GrantRow, RoleRow};
+use rm_rules::rows::{role_called, user_called};
 
 /// The grant makes the user a member of the role.
 fn is_member_by(user: Name, role: Name, grant: GrantRow) -> bool

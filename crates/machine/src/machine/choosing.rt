@@ -4,10 +4,10 @@ ghost use Rattle.std.specs.Prelude.{◌≡◌, Ok, Err, IfOk, IfErr, OnErr};
 use super::Machine;
 use crate::sessions::{choose, has_chosen, live_queries};
 use crate::told::{Done, Told};
-use crate::users::pool_called;
 use rm_base::name::Name;
 use rm_base::refusal::Refusal;
 use rm_base::reply::Reply;
+use rm_rules::rows::pool_called;
 use rm_rules::state::Session;
 
 impl Machine {

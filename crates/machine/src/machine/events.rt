@@ -1,5 +1,5 @@
 //! What each event changes, or why it is refused.
-ghost use Rattle.std.specs.Prelude.{◌≡◌, ◌<◌, ◌≤◌, ◌*◌, false, Some, Ok, Err, is_some, length, IfOk, IfErr, OnErr};
+ghost use Rattle.std.specs.Prelude.{◌≡◌, ◌<◌, ◌≤◌, ◌+◌, ◌*◌, false, Some, Ok, Err, is_some, length, IfOk, IfErr, OnErr};
 ghost use Rattle.rm_base.specs.declared.limits.TheConstants.{SESSIONS_MOST};
 
 use super::Machine;
@@ -8,12 +8,13 @@ use crate::sessions::{
     is_idle, is_running, live_queries, runner_of, session_called, set_phase, take_runner,
 };
 use crate::told::{Done, Told};
-use crate::users::{default_pool, usage, user_called};
+use crate::users::{default_pool, usage};
 use rm_base::event::Event;
 use rm_base::limits::{ENTRIES_A_QUERY, ENTRIES_A_SESSION, SESSIONS_MOST};
 use rm_base::name::Name;
 use rm_base::refusal::Refusal;
 use rm_base::reply::Reply;
+use rm_rules::rows::user_called;
 use rm_rules::state::{Phase, Session, Waiter};
 
 impl Machine {
@@ -25,6 +26,7 @@ impl Machine {
     ghost use Rattle.rm_rules.specs.Healthy.{IsHealthy};
     ghost use Rattle.rm_rules.specs.Step.{IsFormed};
     ghost use Rattle.machine.specs.Answers.{answer_of, change_to};
+    ghost use Rattle.pool_queue.specs.Queue.{has_query};
 
     /// The session of this number, where the seat has opened it.
     pub fn session_of(&self, seat: u32, number: u32) -> Option<Session>
@@ -144,12 +146,13 @@ impl Machine {
     /// A new query of this session joins the queue now.
     fn submit(&mut self, x: &Session, pool: Name, floor: u64) -> Told
         requires waiting { length self.old.waiting < SESSIONS_MOST }
+        requires absent { has_query self.old.waiting (self.old.last_query + 1) ≡ false }
         requires queries { self.old.last_query ≤ self.old.room }
         ensures state { self.new ≡ (submitted self.old x.now pool floor).state }
         ensures answer { answer_of result ≡ (submitted self.old x.now pool floor).answer }
     {
         let query = self.last_query + 1;
-        self.waiting.push_reserved(Waiter {
+        self.waiting.join(Waiter {
             query,
             session: x.number,
             user: x.user,
@@ -161,7 +164,7 @@ impl Machine {
         });
         set_phase(&mut self.sessions, x.number, Phase::Waiting);
         self.last_query = query;
-        Told::Tells(x.number)
+        Told::Collects(x.number)
     }
 
     /// A new query of this session in this pool.

@@ -4,17 +4,19 @@ ghost use Rattle.rm_base.specs.declared.limits.TheConstants.{MEMORY_MOST};
 
 use super::Machine;
 use crate::asks::ask;
-use crate::queue::{has_earlier, is_blocked_behind, is_entitled};
 use budgets::{cap, threshold};
 use rm_base::name::Name;
+use rm_rules::room::Room;
+use rm_rules::rows::pool_row;
 use rm_rules::state::{Judged, Waiter};
 
 impl Machine {
     ghost use Rattle.rm_rules.specs.Definitions.{pool_row};
     ghost use Rattle.rm_rules.specs.Budget.{threshold, cap};
-    ghost use Rattle.rm_rules.specs.Accounting.{used, lent, free};
-    ghost use Rattle.rm_rules.specs.Admission.{judged, ask_of, judged_for, need, can_lend, poolfit, first_entitled};
+    ghost use Rattle.rm_rules.specs.Accounting.{used, running_in, lent, free};
+    ghost use Rattle.rm_rules.specs.Admission.{judged, ask_of, need, can_lend, has_place, poolfit, first_entitled};
     ghost use Rattle.rm_rules.specs.Sound.{IsSound};
+    ghost use Rattle.machine.specs.Settling.{IsSettling};
 
     /// What the pool's queries hold.
     fn used(&self, pool: Name) -> u64
@@ -54,6 +56,16 @@ impl Machine {
         cap(&self.definitions, pool)
     }
 
+    /// Fewer queries run in the pool than its MAXCONCURRENCY.
+    fn has_place(&self, pool: Name) -> bool
+        ensures { result ≡ has_place (pool_row self.now.definitions pool) (running_in pool self.now.running) }
+    {
+        match pool_row(&self.definitions, pool).concurrency {
+            Some(most) => self.accounts.running(pool) < most,
+            None => true,
+        }
+    }
+
     /// The pool lets in a query of so many bytes.
     fn poolfit(&self, pool: Name, bytes: u64) -> bool
         requires sound { IsSound self.now.definitions }
@@ -61,7 +73,7 @@ impl Machine {
         ensures { result ≡ poolfit self.now pool bytes }
     {
         let used = self.used(pool);
-        used <= self.threshold(pool) && used + bytes <= self.cap(pool)
+        self.has_place(pool) && used <= self.threshold(pool) && used + bytes <= self.cap(pool)
     }
 
     /// What the pool would borrow for so many bytes.
@@ -80,7 +92,7 @@ impl Machine {
     }
 
     /// How a query of so many bytes fits in the pool.
-    fn judge(&self, pool: Name, bytes: u64) -> Judged
+    fn judged(&self, pool: Name, bytes: u64) -> Judged
         requires sound { IsSound self.now.definitions }
         requires bytes { bytes ≤ 2 * MEMORY_MOST }
         ensures { result ≡ judged self.now pool bytes }
@@ -104,30 +116,22 @@ impl Machine {
         ask(&self.definitions, w.pool, w.user, w.floor)
     }
 
-    /// How the waiting query fits.
-    fn judge_for(&self, w: &Waiter) -> Judged
-        requires sound { IsSound self.now.definitions }
-        ensures { result ≡ judged_for self.now w.now }
-    {
-        self.judge(w.pool, self.ask_of(w))
-    }
-
-    /// The first of the heads that is entitled.
+    /// The first entitled head in queue order.
     pub fn first_entitled(&self) -> Option<Waiter>
-        requires sound { IsSound self.now.definitions }
+        requires { IsSettling self.now }
         ensures { result ≡ first_entitled self.now }
     {
-        let mut blocked = false;
-        for (i, w) in self.waiting.iter().enumerate() {
-            if has_earlier(&self.waiting, i, w.pool) {
-                continue;
-            }
-            let judged = self.judge_for(w);
-            if is_entitled(blocked, judged) {
-                return Some(*w);
-            }
-            blocked = is_blocked_behind(blocked, judged);
-        }
-        None
+        let query = self.waiting.first_entitled(&self.definitions, self)?;
+        self.waiter_called(query)
+    }
+}
+
+/// The machine knows how a query would fit now.
+impl Room for Machine {
+    ghost stands = { λ m. m };
+
+    fn judge(&self, pool: Name, user: Name, floor: u64) -> Judged {
+        let bytes = ask(&self.definitions, pool, user, floor);
+        self.judged(pool, bytes)
     }
 }

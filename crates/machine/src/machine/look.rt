@@ -124,7 +124,7 @@ impl Machine {
             actual: Listed::of(sizes_seen(alloc, self.accounts.sizes())?),
             sessions: Listed::of(self.sessions_seen(alloc)?),
             running: Listed::of(self.runs_seen(alloc)?),
-            waiting: Listed::of(queue_seen(alloc, &self.waiting)?),
+            waiting: Listed::of(queue_seen(alloc, self.waiting.waiters())?),
             counters: Listed::of(counters_seen(alloc, &self.counters)?),
             moves: Listed::of(moves_seen(alloc, &self.moves)?),
         })

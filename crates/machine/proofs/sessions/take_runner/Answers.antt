@@ -1,6 +1,6 @@
 use Rattle.std.proofs.Common.{sym, ◌∙◌, ap, nat_eq, position, List}
 use Rattle.rm_rules.specs.declared.state.Runner.{Runner}
-use Rattle.machine.proofs.Places.{without-found, without-absent}
+use Rattle.rm_rules.proofs.Places.{without-found, without-absent}
 use Rattle.machine.proofs.sessions.take_runner.Goals as goal
 
 pub returns-in-Some-clause-items : goal.returns-in-Some-clause-items

@@ -1,21 +1,26 @@
 use Rattle.std.proofs.Common.{◌∙◌, ap, sym, subst, refl, length, arith}
 use Rattle.rm_rules.specs.State.{State}
-use Rattle.machine.proofs.Settling.{Admits, room-entitled, absent-entitled, known-entitled, fits-entitled, waiting-admitted, admits-one, admission-none}
+use Rattle.machine.proofs.Settling.{Admits, room-entitled, absent-entitled, known-entitled, fits-entitled, leave-entitled, waiting-admitted, admits-one, admission-none}
 use Rattle.machine.proofs.machine.Machine.admit_entitled.Goals as goal
+
+pub first_entitled-requires : goal.first_entitled-requires
+first_entitled-requires c = c.loop-w.invariant.settling
 
 pub admit-requires : goal.admit-requires
 admit-requires c =
+    let k = c.loop-w.invariant.settling in
     let picked = sym c.first_entitled.ensures ∙ c.in-Some.is in
     record {
-      sound = c.loop-w.invariant.sound;
-      room = room-entitled c.loop-w.self c.in-Some.w c.loop-w.invariant.in_phase picked;
-      absent = absent-entitled c.loop-w.self c.in-Some.w c.loop-w.invariant.numbered picked;
-      known = known-entitled c.loop-w.self c.in-Some.w c.loop-w.invariant.covered.held picked;
+      sound = k.sound;
+      room = room-entitled c.loop-w.self c.in-Some.w k.in_phase picked;
+      absent = absent-entitled c.loop-w.self c.in-Some.w k.numbered picked;
+      known = known-entitled c.loop-w.self c.in-Some.w k.covered.held picked;
       fits = fits-entitled c.loop-w.self c.in-Some.w picked;
+      leaves = leave-entitled c.loop-w.self c.in-Some.w k.in_phase k.numbered picked;
     }
 
 pub loop-w-init : goal.loop-w-init
-loop-w-init c = record { same = refl; sound = c.requires.sound; covered = c.requires.covered; in_phase = c.requires.in_phase; numbered = c.requires.numbered }
+loop-w-init c = record { same = refl; settling = c.requires }
 
 pub loop-w-preserved : goal.loop-w-preserved
 loop-w-preserved c =
@@ -30,8 +35,5 @@ loop-w-smaller c =
 pub returns : goal.returns
 returns c = record {
   state = sym (admission-none c.loop-w.self (sym c.first_entitled.ensures ∙ c.in_default.is)) ∙ c.loop-w.invariant.same;
-  sound = c.loop-w.invariant.sound;
-  covered = c.loop-w.invariant.covered;
-  in_phase = c.loop-w.invariant.in_phase;
-  numbered = c.loop-w.invariant.numbered;
+  settling = c.loop-w.invariant.settling;
 }

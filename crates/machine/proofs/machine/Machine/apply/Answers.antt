@@ -1,38 +1,90 @@
-use Rattle.std.proofs.Common.{◌≡◌, sym, subst, ap, ◌∙◌, Ok, Result}
-use Rattle.rm_base.specs.declared.refusal.Refusal.{Refusal}
+use Rattle.std.proofs.Common.{◌≡◌, ◌||◌, Bool, sym, subst, ap, ◌∙◌}
 use Rattle.rm_rules.specs.State.{State}
-use Rattle.rm_rules.specs.Change.{Change, change}
-use Rattle.rm_rules.specs.Step.{Outcome, moved_to}
+use Rattle.rm_rules.specs.Step.{Outcome}
 use Rattle.rm_rules.specs.Healthy.{IsHealthy}
-use Rattle.rm_rules.proofs.Laws.{moved-facts, changed-facts}
+use Rattle.rm_rules.proofs.Laws.{moved-facts}
 use Rattle.machine.specs.Answers.{change_to}
-use Rattle.machine.proofs.Quiet.{still-state, step-still}
+use Rattle.machine.proofs.Quiet.{found-is, found-healthy, unsettled, outcome-settled, still-healthy, still-moved, outcome-still}
 use Rattle.machine.proofs.machine.Machine.apply.Goals as goal
+use Rattle.machine.proofs.machine.Machine.apply.Goals.{then-timed, else-timed}
 
-pub change-requires : goal.change-requires
-change-requires c = record {
-  healthy = subst IsHealthy (sym c.move_to-before.ensures.state) (moved-facts c.args.self.now c.args.at c.requires.healthy);
-  formed = c.requires.formed;
-}
+pub end_due-timed-requires : goal.end_due-timed-requires
+end_due-timed-requires c = subst IsHealthy (sym c.move_to-before.ensures.state) (moved-facts c.args.self.now c.args.at c.requires.healthy)
+
+pub attempt-done-requires-clause-healthy : goal.attempt-done-requires-clause-healthy
+attempt-done-requires-clause-healthy c =
+    let found = found-is c.args.self.now c.args.at c.move_to-before.new.self c.end_due-timed.new.self c.end_due-timed.result c.move_to-before.ensures.state c.end_due-timed.ensures.state c.end_due-timed.ensures.some in
+    found-healthy c.args.self.now c.args.at c.end_due-timed.new.self c.end_due-timed.result found c.requires.healthy
 
 pub accept-requires : goal.accept-requires
 accept-requires c =
-    let healthy = subst IsHealthy (sym c.move_to-before.ensures.state) (moved-facts c.args.self.now c.args.at c.requires.healthy) in
-    changed-facts c.move_to-before.new.self c.args.seat c.args.event.now (change_to c.change.new.self c.in-Ok.done) healthy c.requires.formed c.in-Ok.ensures.ok c.if-done.true
+    let s = c.args.self.now in
+    let t = c.end_due-timed.new.self in
+    let timed = c.end_due-timed.result in
+    let found = found-is s c.args.at c.move_to-before.new.self t timed c.move_to-before.ensures.state c.end_due-timed.ensures.state c.end_due-timed.ensures.some in
+    let either : (timed || c.attempt-done.result.changed) ≡ c.if-timed.value =
+    elim c.if-timed.branch [
+      | then-timed w ↦ ap (λ (b : Bool). b || c.attempt-done.result.changed) w.if-timed.true ∙ sym w.if-timed.true ∙ sym w.value-is
+      | else-timed w ↦ ap (λ (b : Bool). b || c.attempt-done.result.changed) w.if-timed.false ∙ sym w.value-is
+    ] in
+    unsettled s c.args.seat c.args.at c.args.event.now t timed (change_to c.attempt-done.new.self c.attempt-done.result) c.requires.healthy c.requires.formed found c.attempt-done.ensures
+    (either ∙ c.if-done.true)
 
 pub answer-requires : goal.answer-requires
 answer-requires c =
-    let healthy = subst IsHealthy (sym c.move_to-before.ensures.state) (moved-facts c.args.self.now c.args.at c.requires.healthy) in
-    subst IsHealthy (sym (still-state c.move_to-before.new.self c.args.seat c.args.event.now (change_to c.change.new.self c.in-Ok.done) c.in-Ok.ensures.ok c.if-done.false)) healthy
+    let s = c.args.self.now in
+    let t = c.end_due-timed.new.self in
+    let timed = c.end_due-timed.result in
+    let found = found-is s c.args.at c.move_to-before.new.self t timed c.move_to-before.ensures.state c.end_due-timed.ensures.state c.end_due-timed.ensures.some in
+    let either : (timed || c.attempt-done.result.changed) ≡ c.if-timed.value =
+    elim c.if-timed.branch [
+      | then-timed w ↦ ap (λ (b : Bool). b || c.attempt-done.result.changed) w.if-timed.true ∙ sym w.if-timed.true ∙ sym w.value-is
+      | else-timed w ↦ ap (λ (b : Bool). b || c.attempt-done.result.changed) w.if-timed.false ∙ sym w.value-is
+    ] in
+    still-healthy s c.args.seat c.args.at c.args.event.now t timed (change_to c.attempt-done.new.self c.attempt-done.result) c.requires.healthy found c.attempt-done.ensures
+    (either ∙ c.if-done.false)
+
+pub returns-then-done-clause-state : goal.returns-then-done-clause-state
+returns-then-done-clause-state c =
+    let s = c.args.self.now in
+    let t = c.end_due-timed.new.self in
+    let timed = c.end_due-timed.result in
+    let found = found-is s c.args.at c.move_to-before.new.self t timed c.move_to-before.ensures.state c.end_due-timed.ensures.state c.end_due-timed.ensures.some in
+    let either : (timed || c.attempt-done.result.changed) ≡ c.if-timed.value =
+    elim c.if-timed.branch [
+      | then-timed w ↦ ap (λ (b : Bool). b || c.attempt-done.result.changed) w.if-timed.true ∙ sym w.if-timed.true ∙ sym w.value-is
+      | else-timed w ↦ ap (λ (b : Bool). b || c.attempt-done.result.changed) w.if-timed.false ∙ sym w.value-is
+    ] in
+    c.accept.ensures.state
+    ∙ ap (λ (o : Outcome). o.state) (sym (outcome-settled s c.args.seat c.args.at c.args.event.now t timed (change_to c.attempt-done.new.self c.attempt-done.result) found c.attempt-done.ensures (either ∙ c.if-done.true)))
+
+pub returns-then-done-clause-reply : goal.returns-then-done-clause-reply
+returns-then-done-clause-reply c =
+    let s = c.args.self.now in
+    let t = c.end_due-timed.new.self in
+    let timed = c.end_due-timed.result in
+    let found = found-is s c.args.at c.move_to-before.new.self t timed c.move_to-before.ensures.state c.end_due-timed.ensures.state c.end_due-timed.ensures.some in
+    let either : (timed || c.attempt-done.result.changed) ≡ c.if-timed.value =
+    elim c.if-timed.branch [
+      | then-timed w ↦ ap (λ (b : Bool). b || c.attempt-done.result.changed) w.if-timed.true ∙ sym w.if-timed.true ∙ sym w.value-is
+      | else-timed w ↦ ap (λ (b : Bool). b || c.attempt-done.result.changed) w.if-timed.false ∙ sym w.value-is
+    ] in
+    c.accept.ensures.reply
+    ∙ ap (λ (o : Outcome). o.reply) (sym (outcome-settled s c.args.seat c.args.at c.args.event.now t timed (change_to c.attempt-done.new.self c.attempt-done.result) found c.attempt-done.ensures (either ∙ c.if-done.true)))
 
 pub returns-else-done-clause-state : goal.returns-else-done-clause-state
 returns-else-done-clause-state c =
     let s = c.args.self.now in
-    let moved = c.move_to-before.ensures.state in
-    let now = change_to c.change.new.self c.in-Ok.done in
-    let ok = subst (λ (t : State). let r : Result Change Refusal = Ok now in change t c.args.seat c.args.event.now ≡ r) moved c.in-Ok.ensures.ok in
-    let same = still-state (moved_to s c.args.at) c.args.seat c.args.event.now now ok c.if-done.false in
+    let t = c.end_due-timed.new.self in
+    let timed = c.end_due-timed.result in
+    let now = change_to c.attempt-done.new.self c.attempt-done.result in
+    let found = found-is s c.args.at c.move_to-before.new.self t timed c.move_to-before.ensures.state c.end_due-timed.ensures.state c.end_due-timed.ensures.some in
+    let either : (timed || c.attempt-done.result.changed) ≡ c.if-timed.value =
+    elim c.if-timed.branch [
+      | then-timed w ↦ ap (λ (b : Bool). b || c.attempt-done.result.changed) w.if-timed.true ∙ sym w.if-timed.true ∙ sym w.value-is
+      | else-timed w ↦ ap (λ (b : Bool). b || c.attempt-done.result.changed) w.if-timed.false ∙ sym w.value-is
+    ] in
     c.answer.ensures.state
-    ∙ ap (λ (t : State). record t { clock = c.move_to-before.result }) same
+    ∙ ap (λ (u : State). record u { clock = c.move_to-before.result }) (still-moved s c.args.seat c.args.at c.args.event.now t timed now found c.attempt-done.ensures (either ∙ c.if-done.false))
     ∙ ap (λ n. record s { clock = n }) c.move_to-before.ensures.before
-    ∙ ap (λ (o : Outcome). o.state) (sym (step-still s c.args.seat c.args.at c.args.event.now now ok c.if-done.false))
+    ∙ ap (λ (o : Outcome). o.state) (sym (outcome-still s c.args.seat c.args.at c.args.event.now t timed now found c.attempt-done.ensures (either ∙ c.if-done.false)))

@@ -46,7 +46,6 @@ invariant_of-self c =
     record {
       sessions = c.self.invariant.sessions;
       running = c.self.invariant.running;
-      waiting = c.self.invariant.waiting;
       counters = omega (arith, c.self.invariant.counters, c.push_reserved.ensures.capacity);
       moves = c.self.invariant.moves;
       journal = c.self.invariant.journal;
@@ -63,7 +62,6 @@ invariant_of-self-else-pools-rows c =
     record {
       sessions = c.self.invariant.sessions;
       running = c.self.invariant.running;
-      waiting = c.self.invariant.waiting;
       counters = c.self.invariant.counters;
       moves = c.self.invariant.moves;
       journal = c.self.invariant.journal;

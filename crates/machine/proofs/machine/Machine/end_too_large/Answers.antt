@@ -1,10 +1,13 @@
 use Rattle.std.proofs.Common.{◌∙◌, ap, sym, subst, refl, length, arith}
 use Rattle.rm_rules.specs.State.{State}
-use Rattle.machine.proofs.Settling.{Ends, waiting-ended, ends-one, ends-none}
+use Rattle.machine.proofs.Settling.{Ends, leave-large, waiting-ended, ends-one, ends-none}
 use Rattle.machine.proofs.machine.Machine.end_too_large.Goals as goal
 
 pub end_as-requires : goal.end_as-requires
-end_as-requires c = c.loop-w.invariant.held.counts
+end_as-requires c = record {
+  counts = c.loop-w.invariant.held.counts;
+  leaves = leave-large c.loop-w.self c.in-Some.w c.loop-w.invariant.in_phase c.loop-w.invariant.numbered c.in-Some.ensures.found;
+}
 
 pub loop-w-init : goal.loop-w-init
 loop-w-init c = record { same = refl; sound = c.requires.sound; held = c.requires.held; in_phase = c.requires.in_phase; numbered = c.requires.numbered }
@@ -25,4 +28,5 @@ returns c = record {
   held = c.loop-w.invariant.held;
   in_phase = c.loop-w.invariant.in_phase;
   numbered = c.loop-w.invariant.numbered;
+  small = c.in_default.ensures.none;
 }

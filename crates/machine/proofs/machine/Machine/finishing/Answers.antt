@@ -21,7 +21,6 @@ invariant_of-self c =
     record {
       sessions = c.self.invariant.sessions;
       running = omega (arith, c.self.invariant.running, c.take_runner.ensures.room);
-      waiting = c.self.invariant.waiting;
       counters = c.self.invariant.counters;
       moves = c.self.invariant.moves;
       journal = c.self.invariant.journal;

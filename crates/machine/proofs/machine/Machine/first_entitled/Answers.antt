@@ -1,45 +1,27 @@
-use Rattle.std.proofs.Common.{◌<◌, ◌+◌, ◌||◌, List, length, get_or, take, drop, Bool, ap, sym, ◌∙◌, arith}
-use Rattle.rm_rules.specs.declared.state.Waiter.{Waiter}
-use Rattle.rm_rules.specs.declared.state.Judged.{Judged}
+use Rattle.std.proofs.Common.{◌≡◌, true, ap, sym, subst, ◌∙◌, Some}
+use Rattle.pool_queue.specs.Queue.{are_pools_known, query_of, with_waiting}
 use Rattle.rm_rules.specs.State.{State}
-use Rattle.rm_rules.specs.Admission.{heads_behind, first_among, is_entitled, is_blocked}
-use Rattle.machine.proofs.Heads.{is_behind, skips, picks, passes}
+use Rattle.rm_rules.specs.Admission.{first_entitled}
+use Rattle.machine.proofs.Seen.{sound_inside}
+use Rattle.machine.proofs.Settling.{number-entitled, none_picked}
 use Rattle.machine.proofs.machine.Machine.first_entitled.Goals as goal
 
-pub loop-i-preserved-then-has_earlier : goal.loop-i-preserved-then-has_earlier
-loop-i-preserved-then-has_earlier c =
-    let ws = c.args.self.now.waiting in
-    let w = c.w-item.result in
-    let items = ap (λ (s : State). s.waiting) c.self.view_is in
-    let all = c.deref-w-items.ensures.value ∙ items in
-    let within : c.loop-i.i < length ws = omega (arith, ap (λ (xs : List Waiter). length xs) all) in
-    let at_w = c.w-item.is ∙ ap (λ (xs : List Waiter). get_or xs c.loop-i.i w) all in
-    let behind = ap (λ (xs : List Waiter). is_behind (take c.loop-i.i xs) w) (sym (c.deref.ensures.value ∙ items)) ∙ sym c.has_earlier.ensures ∙ c.if-has_earlier.true in
-    skips c.args.self.now c.loop-i.blocked ws c.loop-i.i w within at_w behind ∙ c.loop-i.invariant
+pub first_entitled-requires-clause-sound : goal.first_entitled-requires-clause-sound
+first_entitled-requires-clause-sound c = sound_inside c.self.inside c.args.self.now c.self.view_is c.requires.sound
 
-pub returns-then-is_entitled : goal.returns-then-is_entitled
-returns-then-is_entitled c =
-    let ws = c.args.self.now.waiting in
-    let w = c.w-item.result in
-    let items = ap (λ (s : State). s.waiting) c.self.view_is in
-    let all = c.deref-w-items.ensures.value ∙ items in
-    let within : c.loop-i.i < length ws = omega (arith, ap (λ (xs : List Waiter). length xs) all) in
-    let at_w = c.w-item.is ∙ ap (λ (xs : List Waiter). get_or xs c.loop-i.i w) all in
-    let behind = ap (λ (xs : List Waiter). is_behind (take c.loop-i.i xs) w) (sym (c.deref.ensures.value ∙ items)) ∙ sym c.has_earlier.ensures ∙ c.if-has_earlier.false in
-    let entitled = ap (λ (j : Judged). is_entitled c.loop-i.blocked j) (sym c.judge_for-judged.ensures) ∙ sym c.is_entitled.ensures ∙ c.if-is_entitled.true in
-    sym (picks c.args.self.now c.loop-i.blocked ws c.loop-i.i w within at_w behind entitled) ∙ c.loop-i.invariant
+pub first_entitled-requires-clause-known : goal.first_entitled-requires-clause-known
+first_entitled-requires-clause-known c =
+    subst (λ (s : State). are_pools_known s.definitions s.waiting ≡ true) (sym c.self.view_is) c.requires.covered.held.waiting_known
 
-pub loop-i-preserved : goal.loop-i-preserved
-loop-i-preserved c =
+pub returns-in_err-query : goal.returns-in_err-query
+returns-in_err-query c =
     let s = c.args.self.now in
-    let ws = s.waiting in
-    let i = c.loop-i.i in
-    let w = c.w-item.result in
-    let items = ap (λ (s : State). s.waiting) c.self.view_is in
-    let all = c.deref-w-items.ensures.value ∙ items in
-    let within : i < length ws = omega (arith, ap (λ (xs : List Waiter). length xs) all) in
-    let at_w = c.w-item.is ∙ ap (λ (xs : List Waiter). get_or xs i w) all in
-    let behind = ap (λ (xs : List Waiter). is_behind (take i xs) w) (sym (c.deref.ensures.value ∙ items)) ∙ sym c.has_earlier.ensures ∙ c.if-has_earlier.false in
-    let not_entitled = ap (λ (j : Judged). is_entitled c.loop-i.blocked j) (sym c.judge_for-judged.ensures) ∙ sym c.is_entitled.ensures ∙ c.if-is_entitled.false in
-    let blocked = c.is_blocked_behind-blocked.ensures ∙ ap (λ (j : Judged). c.loop-i.blocked || is_blocked j) c.judge_for-judged.ensures in
-    ap (λ (b : Bool). first_among s b (heads_behind (take (i + 1) ws) (drop (i + 1) ws))) blocked ∙ passes s c.loop-i.blocked ws i w within at_w behind not_entitled ∙ c.loop-i.invariant
+    c.from_residual.ensures
+    ∙ sym (none_picked (first_entitled s) (ap (λ (t : State). query_of (first_entitled (with_waiting s t.waiting))) (sym c.self.view_is) ∙ sym c.first_entitled.ensures.value ∙ c.in_err-query.was))
+
+pub returns : goal.returns
+returns c =
+    let s = c.args.self.now in
+    let picked : query_of (first_entitled s) ≡ Some c.in_ok-query.query =
+    ap (λ (t : State). query_of (first_entitled (with_waiting s t.waiting))) (sym c.self.view_is) ∙ sym c.first_entitled.ensures.value ∙ c.in_ok-query.was in
+    c.waiter_called.ensures ∙ number-entitled s c.in_ok-query.query c.requires.numbered picked
