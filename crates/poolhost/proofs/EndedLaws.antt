@@ -12,7 +12,7 @@ use Rattle.poolhost.specs.declared.options.Options.{Options}
 use Rattle.poolhost.specs.declared.status.TheConstants.{DONE, USAGE, BAD_LINE, READ_FAULT, WRITE_FAULT, NO_MEMORY, TOO_LONG}
 use Rattle.poolhost.specs.Ended.{Streams, status_of, WroteWhole, WrotePart, EndsAs}
 use Rattle.std.specs.Str.Lines.{lines}
-use Rattle.poolhost.specs.Script.{ScriptEnd, no_script, script_with, script_start, lines_end}
+use Rattle.poolhost.specs.Script.{ScriptEnd, no_script, script_with, first_state, lines_end}
 use Rattle.poolhost.specs.Transfers.{IsTooLong}
 
 -- what holds of the value, if there is one
@@ -41,7 +41,7 @@ long-turn bytes (Some rest) h = omega (arith, h.long, ap length h.read, length-a
 too_long-script : (o : Options) (bytes : List ℕ) → SCRIPT_MOST < length bytes → script_with (Some o) bytes ≡ no_script TOO_LONG
 too_long-script o bytes long =
     let is : ltb SCRIPT_MOST (length bytes) ≡ true = grind (arith, nat_tests) in
-    ap (λ b. cond b (no_script TOO_LONG) (lines_end 1 (record { machine = script_start o; names = [] }) (lines bytes))) is
+    ap (λ b. cond b (no_script TOO_LONG) (lines_end 1 (first_state o) (lines bytes))) is
 
 -- the text and the status are the script's
 abbrev pub IsScript : Option Options → Streams → ℕ → Type 0

@@ -1,12 +1,12 @@
 -- What `parse` reads, as a number of digits alone.
-use Rattle.std.proofs.Common.{◌≡◌, ◌≢◌, ℕ, ◌^◌, ◌<◌, ◌≤◌, Bool, true, false, ◌&&◌, cond, nat_lt, Decides, None, Some, Result, Ok, Err, List, length, get_or, refl, sym, ap, ◌∙◌, arith}
+use Rattle.std.proofs.Common.{◌≡◌, ◌≢◌, ℕ, ◌^◌, ◌<◌, ◌≤◌, Bool, true, false, ◌&&◌, cond, nat_lt, leb, Decides, None, Some, Result, Ok, Err, List, length, get_or, refl, sym, ap, ◌∙◌, arith}
 use Rattle.std.proofs.lemmas.Bool.{false≢true}
-use Rattle.std.proofs.lemmas.Bool.Decides.{Decides-like, Decides-and, Decides-ltb}
+use Rattle.std.proofs.lemmas.Bool.Decides.{Decides-like, Decides-and, Decides-ltb, nat_tests}
 use Rattle.std.proofs.lemmas.Str.Parse.{IsNumeralModel, numerals_by_value, tells_all_ascii_digits, parse_plain, digits_value_short}
 use Rattle.std.specs.Result.{OkIff, result_ok}
 use Rattle.std.specs.Str.{all_ascii_digits}
 use Rattle.std.specs.Str.Parse.{ParsesUnsigned, digits_value}
-use Rattle.poolhost.specs.Numbers.{value_of, below, is_numeral}
+use Rattle.poolhost.specs.Numbers.{value_of, below, is_numeral, number_of}
 
 -- digits, and the number that they write
 pub numerals : IsNumeralModel (λ word. all_ascii_digits word ≡ true) (digits_value 10)
@@ -44,3 +44,19 @@ short_turn word false is short = refl
 -- a number of few digits fits
 pub below-short : (word : List ℕ) → length word ≤ 15 → below (2 ^ 64) (value_of word) ≡ value_of word
 below-short word short = below-value (is_numeral word) (digits_value 10 word) (2 ^ 64) ∙ short_turn word (is_numeral word) refl short
+
+-- a number of a script is as short as its digits
+short-below : (word : List ℕ) (n : ℕ) (numeral : Bool) → is_numeral word ≡ numeral → length word ≤ 15 → cond numeral (Some (digits_value 10 word)) None ≡ Some n → n < 10 ^ 15
+short-below word n true is short h =
+    let digits = (Decides-and _ _ (Decides-ltb 0 (length word)) (λ e. e, λ e. e)).0 is in
+    let small = digits_value_short numerals word 15 digits.1 short in
+    let same : digits_value 10 word ≡ n = cc in
+    omega (arith, small, same)
+short-below word n false is short h = absurd (cc)
+
+number-turn : (word : List ℕ) (n : ℕ) (short : Bool) → leb (length word) 15 ≡ short → cond short (value_of word) None ≡ Some n → n < 10 ^ 15
+number-turn word n true is h = short-below word n (is_numeral word) refl (let le : length word ≤ 15 = grind (arith, nat_tests) in le) h
+number-turn word n false is h = absurd (cc)
+
+pub number_of-short : (word : List ℕ) (n : ℕ) → number_of word ≡ Some n → n < 10 ^ 15
+number_of-short word n h = number-turn word n (leb (length word) 15) refl h

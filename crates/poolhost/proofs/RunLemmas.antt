@@ -16,7 +16,7 @@ use Rattle.poolhost.specs.declared.names.TheConstants.{LINES_MOST}
 use Rattle.poolhost.specs.declared.options.Options.{Options}
 use Rattle.poolhost.specs.declared.status.TheConstants.{BAD_LINE, TOO_LONG}
 use Rattle.poolhost.specs.Ended.{Streams, ended_as, input_end, EndsAs}
-use Rattle.poolhost.specs.Script.{ScriptState, Bad, Goes, ScriptEnd, no_script, script_start, script_with, after_text, turn_end, line_turn, lines_end}
+use Rattle.poolhost.specs.Script.{ScriptState, Bad, Goes, ScriptEnd, no_script, first_state, script_with, after_text, turn_end, line_turn, lines_end}
 use Rattle.poolhost.specs.Scripts.{LinesEnded, stopped_by, bad_line_end, stop_after, WentOn, EndedAt}
 use Rattle.poolhost.specs.Texts.{bad_text}
 use Rattle.poolhost.specs.Transfers.{IsWholeInput, ExplainsInput, WroteFront, ExplainsOutput}
@@ -127,10 +127,10 @@ has_run-whole bytes rest first now number a b o n run none =
 
 -- a script within its limit has the lines of its bytes
 pub short-script : (options : Options) (bytes : List ℕ) → length bytes ≤ SCRIPT_MOST
-    → script_with (Some options) bytes ≡ lines_end 1 (record { machine = script_start options; names = [] }) (lines bytes)
+    → script_with (Some options) bytes ≡ lines_end 1 (first_state options) (lines bytes)
 short-script options bytes fits =
     let is : ltb SCRIPT_MOST (length bytes) ≡ false = grind (arith, nat_tests) in
-    ap (λ b. cond b (no_script TOO_LONG) (lines_end 1 (record { machine = script_start options; names = [] }) (lines bytes))) is
+    ap (λ b. cond b (no_script TOO_LONG) (lines_end 1 (first_state options) (lines bytes))) is
 
 -- what a script leaves whose input could not be read
 pub input-ends : (options : Options) (s : Streams) (error : InputError) → ExplainsInput s.left s.left_now s.reads s.reads_now error → Keeps s.written s.written_now
@@ -164,7 +164,7 @@ lines-end_as options s bytes end.Memory whole h = (refl, whole-same s.left s.lef
 
 -- what the lines of a script left, the script left
 pub bytes-end : (options : Options) (bytes : List ℕ) (s : ScriptState) (a b : Option (List ℕ)) (o n : ℕ) (r : LinesEnd) → length bytes ≤ SCRIPT_MOST
-    → s ≡ record { machine = script_start options; names = [] }
+    → s ≡ first_state options
     → LinesEnded a b o n (lines_end 1 s (lines bytes)).text (lines_end 1 s (lines bytes)).status r
     → LinesEnded a b o n (script_with (Some options) bytes).text (script_with (Some options) bytes).status r
 bytes-end options bytes s a b o n r fits start h =

@@ -25,11 +25,11 @@ use Rattle.rm_rules.specs.Step.{step, replay, IsFormed, IsLegal}
 use Rattle.rm_rules.specs.Conserved.{ConservedAfterEach}
 use Rattle.rm_rules.proofs.Laws.{legal-step, replay-step, conserved-after-each, fresh-sound}
 use Rattle.poolhost.specs.declared.options.Options.{Options}
-use Rattle.poolhost.specs.Commands.{Command, Sql, Open, SetPool, Ask, Poll, Done, command_of}
+use Rattle.poolhost.specs.Commands.{Command, At, Sql, Open, SetPool, Ask, Poll, Done, command_of}
 use Rattle.poolhost.specs.Numbers.{below, at_least, in_range, value_of}
 use Rattle.poolhost.specs.Options.{unit_of, times, memory_of, cores_of, both_options, values_in, options_of}
 use Rattle.poolhost.specs.OptionsFacts.{AreWithin}
-use Rattle.poolhost.specs.Script.{ScriptState, Turn, Bad, Goes, judged_turn, read_turn, with_name, chosen_turn, opened_turn, opening_turn, set_pool_turn, ask_turn, poll_turn, done_turn, turn, command_turn, line_turn, is_comment, ScriptEnd, turn_end, lines_end, no_script, script_start, script_with, script, IsOneHistory}
+use Rattle.poolhost.specs.Script.{ScriptState, Turn, Bad, Goes, judged_turn, read_turn, with_name, chosen_turn, opened_turn, opening_turn, set_pool_turn, ask_turn, poll_turn, done_turn, turn, command_turn, line_turn, is_comment, ScriptEnd, turn_end, lines_end, no_script, script_start, first_state, script_with, script, IsOneHistory}
 use Rattle.poolhost.specs.SessionNames.{session_named}
 
 -- a fact of the machine that a turn leaves, where it leaves one
@@ -44,13 +44,13 @@ bad_or P false t h = h
 
 -- a fact that each machine call keeps
 abbrev IsKeptByCalls : (State → Type 0) → Type 0
-IsKeptByCalls P = (m : State) (e : Event) → IsFormed e → P m → P (step m 0 0 e).state
+IsKeptByCalls P = (m : State) (at : ℕ) (e : Event) → IsFormed e → P m → P (step m 0 at e).state
 
 -- what each machine call keeps, each turn keeps
 judged : (P : State → Type 0) → IsKeptByCalls P → (s : ScriptState) (statement : Statement) → IsFormed (event.Define statement) → (r : Result Definitions Refusal)
     → P s.machine → OnGoes P (judged_turn s statement r)
 judged P each s statement formed (Err refusal) h = h
-judged P each s statement formed (Ok d) h = each s.machine (event.Define statement) formed h
+judged P each s statement formed (Ok d) h = each s.machine s.moment (event.Define statement) formed h
 
 states : (P : State → Type 0) → IsKeptByCalls P → (s : ScriptState) (statement : Statement) → is_statement_in_range statement ≡ true → (b : Bool) → is_pool_statement statement ≡ b
     → P s.machine → OnGoes P (cond b (judged_turn s statement (accepted s.machine.definitions statement)) Bad)
@@ -64,7 +64,7 @@ reads P each s (Ok statement) ranged h = states P each s statement (ranged state
 
 chooses : (P : State → Type 0) → IsKeptByCalls P → (s : ScriptState) (session : Name) (number : ℕ) (pool : Option Name) → P s.machine → OnGoes P (chosen_turn s session number pool)
 chooses P each s session number None h = h
-chooses P each s session number (Some pool) h = each s.machine (event.SetPool number pool) tt h
+chooses P each s session number (Some pool) h = each s.machine s.moment (event.SetPool number pool) tt h
 
 follows_open : (P : State → Type 0) → IsKeptByCalls P → (s : ScriptState) (session : Name) (pool : Option Name) (r : Reply) → P s.machine → OnGoes P (opened_turn s session pool r)
 follows_open P each s session pool (reply.Opened number) h = chooses P each (with_name s session number) session number pool h
@@ -72,26 +72,27 @@ follows_open P each s session pool _ h = h
 
 opens : (P : State → Type 0) → IsKeptByCalls P → (s : ScriptState) (session user : Name) (pool : Option Name) → P s.machine → OnGoes P (opening_turn s session user pool)
 opens P each s session user pool h =
-    let o = step s.machine 0 0 (event.Open user) in
-    follows_open P each (record s { machine = o.state }) session pool o.reply (each s.machine (event.Open user) tt h)
+    let o = step s.machine 0 s.moment (event.Open user) in
+    follows_open P each (record s { machine = o.state }) session pool o.reply (each s.machine s.moment (event.Open user) tt h)
 
 sets_pool : (P : State → Type 0) → IsKeptByCalls P → (s : ScriptState) (session pool : Name) (o : Option ℕ) → P s.machine → OnGoes P (set_pool_turn s session pool o)
 sets_pool P each s session pool None h = tt
-sets_pool P each s session pool (Some n) h = each s.machine (event.SetPool n pool) tt h
+sets_pool P each s session pool (Some n) h = each s.machine s.moment (event.SetPool n pool) tt h
 
 asks : (P : State → Type 0) → IsKeptByCalls P → (s : ScriptState) (session : Name) (floor : ℕ) (o : Option ℕ) → P s.machine → OnGoes P (ask_turn s session floor o)
 asks P each s session floor None h = tt
-asks P each s session floor (Some n) h = each s.machine (event.Submit n floor) tt h
+asks P each s session floor (Some n) h = each s.machine s.moment (event.Submit n floor) tt h
 
 polls : (P : State → Type 0) → IsKeptByCalls P → (s : ScriptState) (session : Name) (o : Option ℕ) → P s.machine → OnGoes P (poll_turn s session o)
 polls P each s session None h = tt
-polls P each s session (Some n) h = each s.machine (event.Poll n) tt h
+polls P each s session (Some n) h = each s.machine s.moment (event.Poll n) tt h
 
 ends : (P : State → Type 0) → IsKeptByCalls P → (s : ScriptState) (session : Name) (o : Option ℕ) → P s.machine → OnGoes P (done_turn s session o)
 ends P each s session None h = tt
-ends P each s session (Some n) h = each s.machine (event.Finish n) tt h
+ends P each s session (Some n) h = each s.machine s.moment (event.Finish n) tt h
 
 turn_keeps : (P : State → Type 0) → IsKeptByCalls P → (s : ScriptState) (c : Command) → P s.machine → OnGoes P (turn s c)
+turn_keeps P each s (At moment) h = bad_or P _ (Goes [] (record s { moment = moment })) h
 turn_keeps P each s (Sql text) h = reads P each s (read_of text) (read_of-in_range text) h
 turn_keeps P each s (Open session user pool) h = bad_or P _ (opening_turn s session user pool) (opens P each s session user pool h)
 turn_keeps P each s (SetPool session pool) h = sets_pool P each s session pool (session_named s.names session) h
@@ -130,7 +131,7 @@ pub record IsHistory (first m : State) : Type 0 where
   pub replays : replay first m.journal ≡ m
 
 history-step : (first : State) → IsKeptByCalls (IsHistory first)
-history-step first m e formed h = record { legal = legal-step first m 0 0 e formed h.legal h.replays; replays = replay-step first m 0 0 e h.replays }
+history-step first m at e formed h = record { legal = legal-step first m 0 at e formed h.legal h.replays; replays = replay-step first m 0 at e h.replays }
 
 pub legal-lines : (first : State) (n : ℕ) (s : ScriptState) (lines : List (List ℕ)) → IsHistory first s.machine → IsLegal first (lines_end n s lines).journal
 legal-lines first n s lines h =
@@ -201,9 +202,9 @@ one_history words bytes o h =
     let first = script_start o in
     let sound = let w = options-within words o h in fresh-sound o.memory o.cores w.memory_least w.memory_most w.cores_least w.cores_most in
     let legal : IsLegal first (script_with (Some o) bytes).journal =
-    elim (ltb SCRIPT_MOST (length bytes)) as (λ b. IsLegal first (cond b (no_script TOO_LONG) (lines_end 1 (record { machine = first; names = [] }) (lines bytes))).journal) [
+    elim (ltb SCRIPT_MOST (length bytes)) as (λ b. IsLegal first (cond b (no_script TOO_LONG) (lines_end 1 (first_state o) (lines bytes))).journal) [
       | true ↦ tt
-      | false ↦ legal-lines first 1 (record { machine = first; names = [] }) (lines bytes) (record { legal = tt; replays = refl })
+      | false ↦ legal-lines first 1 (first_state o) (lines bytes) (record { legal = tt; replays = refl })
     ] in
     let conserved : ConservedAfterEach first (script_with (Some o) bytes).journal = conserved-after-each (fresh o.memory o.cores) SCRIPT_ROOM (script_with (Some o) bytes).journal sound legal in
     let both : IsOneHistory o (script_with (Some o) bytes) = record { legal = legal; conserved = conserved } in

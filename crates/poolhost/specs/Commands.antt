@@ -9,11 +9,12 @@ use Rattle.poolhost.specs.declared.command.Verb.TheVariants as verb
 use Rattle.poolhost.specs.declared.command.Command.{Command as Told}
 use Rattle.poolhost.specs.declared.command.Command.TheVariants as told
 use Rattle.rm_base.specs.Name.{name_of}
-use Rattle.poolhost.specs.Numbers.{floor_of}
+use Rattle.poolhost.specs.Numbers.{number_of, floor_of}
 use Rattle.poolhost.specs.Words.{is_space, words, one_behind, two_behind, three_behind}
 
--- what a line of a script asks for: TEXT is a text, S and USER and POOL are names
+-- what a line of a script asks for: N is a number, TEXT is a text, S and USER and POOL are names
 pub data Command : Type 0 where
+  At : (moment : ℕ) → Command
   Sql : (text : List ℕ) → Command
   Open : (session user : Name) → (pool : Option Name) → Command
   SetPool : (session pool : Name) → Command
@@ -23,6 +24,7 @@ pub data Command : Type 0 where
 
 -- what a command of the program is seen as
 abbrev pub seen_command : Told → Command
+seen_command (told.At moment) = At moment.value
 seen_command (told.Sql text) = Sql text.now
 seen_command (told.Open session user pool) = Open session user pool
 seen_command (told.SetPool session pool) = SetPool session pool
@@ -33,12 +35,13 @@ seen_command (told.Done session) = Done session
 -- the verb that a word is, compared as written
 abbrev pub verb_of : List ℕ → Option Verb
 verb_of word =
-    if bytes_eq word (codes "sql") then Some verb.Sql
+    if bytes_eq word (codes "at") then Some verb.At
+    else (if bytes_eq word (codes "sql") then Some verb.Sql
     else (if bytes_eq word (codes "open") then Some verb.Open
     else (if bytes_eq word (codes "set") then Some verb.Set
     else (if bytes_eq word (codes "ask") then Some verb.Ask
     else (if bytes_eq word (codes "poll") then Some verb.Poll
-    else (if bytes_eq word (codes "done") then Some verb.Done else None)))))
+    else (if bytes_eq word (codes "done") then Some verb.Done else None))))))
 
 -- what stands before the first space of a line
 abbrev pub first_word : List ℕ → List ℕ
@@ -47,6 +50,10 @@ first_word line = before_first is_space line
 -- what stands behind the first space of a line, where it has one
 abbrev pub text_behind : List ℕ → Option (List ℕ)
 text_behind line = if nat_lt (length (first_word line)) (length line) then Some (after_first is_space line) else None
+
+-- the words of an `at` line
+abbrev pub at_line : List (List ℕ) → Option Command
+at_line words = option_and_then (λ moment. option_map At (number_of moment)) (one_behind words)
 
 -- `open S USER` or `open S USER POOL`, by what S and USER are read as, and POOL if there is one
 abbrev pub open_command : Option Name → Option Name → Option (Option Name) → Option Command
@@ -107,6 +114,7 @@ done_line words = option_and_then (λ session. option_map Done (name_of session)
 
 -- the command of a line that begins with a verb
 abbrev pub command_with : Verb → List ℕ → Option Command
+command_with verb.At line = at_line (words line)
 command_with verb.Sql line = option_map Sql (text_behind line)
 command_with verb.Open line = open_line (words line)
 command_with verb.Set line = set_line (words line)

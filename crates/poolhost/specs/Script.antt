@@ -22,27 +22,32 @@ use Rattle.poolhost.specs.declared.names.Named.{Named}
 use Rattle.poolhost.specs.declared.names.TheConstants.{LINES_MOST}
 use Rattle.poolhost.specs.declared.options.Options.{Options}
 use Rattle.poolhost.specs.declared.status.TheConstants.{DONE, USAGE, BAD_LINE, TOO_LONG}
-use Rattle.poolhost.specs.Commands.{Command, Sql, Open, SetPool, Ask, Poll, Done, command_of}
+use Rattle.poolhost.specs.Commands.{Command, At, Sql, Open, SetPool, Ask, Poll, Done, command_of}
 use Rattle.poolhost.specs.Lines.{is_readable}
 use Rattle.poolhost.specs.Options.{options_of}
 use Rattle.poolhost.specs.SessionNames.{session_named}
 use Rattle.poolhost.specs.Texts.{line_text, queued_text, chosen_text, bare_text, bad_text}
 
--- the state of a script: the machine's, and the script's names of the open sessions
+-- the state of a script: the machine's, the script's names of the open sessions, and its moment
 pub record ScriptState : Type 0 where
   pub machine : State
   pub names : List Named
+  pub moment : ℕ
 
 -- what one line of a script does: it is bad, or it prints a text and leaves a state
 pub data Turn : Type 0 where
   Bad : Turn
   Goes : (text : List ℕ) (state : ScriptState) → Turn
 
--- a machine call of a script, at its one moment and seat, and the text that its reply is printed as
+-- a machine call of a script, at its moment and from its one seat, and the text that its reply is printed as
 abbrev pub called : ScriptState → Event → (Reply → List ℕ) → Turn
 called s e text =
-    let o = step s.machine 0 0 e in
+    let o = step s.machine 0 s.moment e in
     Goes (text o.reply) (record s { machine = o.state })
+
+-- `at N`: the moment never falls
+abbrev pub at_turn : ScriptState → ℕ → Turn
+at_turn s moment = if nat_lt moment s.moment then Bad else Goes [] (record s { moment = moment })
 
 -- a statement on pools, by whether it is accepted: a refused one reaches no machine
 abbrev pub judged_turn : ScriptState → Statement → Result Definitions Refusal → Turn
@@ -80,7 +85,7 @@ opened_turn s session pool answer = Goes (line_text session answer) s
 -- Open, and what follows it
 abbrev pub opening_turn : ScriptState → Name → Name → Option Name → Turn
 opening_turn s session user pool =
-    let o = step s.machine 0 0 (event.Open user) in
+    let o = step s.machine 0 s.moment (event.Open user) in
     opened_turn (record s { machine = o.state }) session pool o.reply
 
 -- `open S USER` or `open S USER POOL`: bad where the name is used, where as many sessions are open as may be, and for
@@ -112,6 +117,7 @@ done_turn s session (Some number) = called s (event.Finish number) (line_text se
 
 -- what a command does
 abbrev pub turn : ScriptState → Command → Turn
+turn s (At moment) = at_turn s moment
 turn s (Sql text) = sql_turn s text
 turn s (Open session user pool) = open_turn s session user pool
 turn s (SetPool session pool) = set_pool_turn s session pool (session_named s.names session)
@@ -158,6 +164,10 @@ lines_end number s (line ∷ more) = turn_end number s (line_turn number s line)
 abbrev pub script_start : Options → State
 script_start options = start (fresh options.memory options.cores) SCRIPT_ROOM
 
+-- a script before its first line
+abbrev pub first_state : Options → ScriptState
+first_state options = record { machine = script_start options; names = []; moment = 0 }
+
 -- an end before the first line
 abbrev pub no_script : ℕ → ScriptEnd
 no_script status = record { text = []; status = status; journal = [] }
@@ -167,7 +177,7 @@ abbrev pub script_with : Option Options → List ℕ → ScriptEnd
 script_with None bytes = no_script USAGE
 script_with (Some options) bytes =
     if nat_lt SCRIPT_MOST (length bytes) then no_script TOO_LONG
-    else lines_end 1 (record { machine = script_start options; names = [] }) (lines bytes)
+    else lines_end 1 (first_state options) (lines bytes)
 
 -- what a script prints, and the status with which it ends, by the words of the command line and the bytes of the script
 abbrev pub script : List (List ℕ) → List ℕ → ScriptEnd

@@ -16,7 +16,7 @@ use Rattle.poolhost.specs.Transfers.{WroteFront}
 
 -- what a running script is seen as
 abbrev pub seen : Running → ScriptState
-seen s = record { machine = s.desk.state; names = s.names.items }
+seen s = record { machine = s.desk.state; names = s.names.items; moment = s.moment }
 
 -- a turn that was done, with the state that it left
 abbrev pub seen_turn : Turned → ScriptState → Turn

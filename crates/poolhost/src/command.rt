@@ -1,9 +1,9 @@
 //! The commands of a script.
 
 ghost use Rattle.std.specs.Prelude.{◌≡◌, map, option_map, IfOk};
-ghost use Rattle.poolhost.specs.Commands.{seen_command, verb_of, first_word, text_behind, open_plain, open_in_pool, open_line, set_line, ask_line, poll_line, done_line, command_with, command_of};
+ghost use Rattle.poolhost.specs.Commands.{seen_command, verb_of, first_word, text_behind, at_line, open_plain, open_in_pool, open_line, set_line, ask_line, poll_line, done_line, command_with, command_of};
 
-use crate::numbers::floor_of;
+use crate::numbers::{Number, floor_of, moment_of};
 use crate::words::{one_behind, three_behind, two_behind, words};
 use rm_base::name::Name;
 use std::alloc::{AllocError, Global};
@@ -11,6 +11,8 @@ use std::alloc::{AllocError, Global};
 /// What a line of a script asks for.
 #[derive(Clone, Copy, PartialEq, Eq, Debug)]
 pub enum Command<'a> {
+    /// `at N`: the script's moment becomes this one.
+    At(Number),
     /// `sql TEXT`: the text is a statement.
     Sql(&'a str),
     /// `open S USER` or `open S USER POOL`: a user opens a session, and the session chooses a pool.
@@ -42,6 +44,7 @@ pub enum Command<'a> {
 /// The first word of a command.
 #[derive(Clone, Copy, PartialEq, Eq, Debug)]
 pub enum Verb {
+    At,
     Sql,
     Open,
     Set,
@@ -67,6 +70,7 @@ fn read_with(alloc: Global, verb: Verb, line: &str) -> Result<Option<Command<'_>
     ensures { IfOk result (λ command. option_map seen_command command ≡ command_with verb line.now) }
 {
     match verb {
+        Verb::At => Ok(at_line(&words(alloc, line)?)),
         Verb::Sql => Ok(text_behind(line).map(Command::Sql)),
         Verb::Open => Ok(open_line(&words(alloc, line)?)),
         Verb::Set => Ok(set_line(&words(alloc, line)?)),
@@ -81,6 +85,7 @@ fn verb_of(word: &str) -> Option<Verb>
     ensures { result ≡ verb_of word.now }
 {
     match word {
+        "at" => Some(Verb::At),
         "sql" => Some(Verb::Sql),
         "open" => Some(Verb::Open),
         "set" => Some(Verb::Set),
@@ -109,6 +114,14 @@ fn text_behind(line: &str) -> Option<&str>
         Some((_, text)) => Some(text),
         None => None,
     }
+}
+
+/// `at N`
+fn at_line<'a>(words: &[&str]) -> Option<Command<'a>>
+    ensures { option_map seen_command result ≡ at_line (map (λ word. word.now) words.now) }
+{
+    let moment = one_behind(words)?;
+    Some(Command::At(moment_of(moment)?))
 }
 
 /// `open S USER` or `open S USER POOL`
@@ -194,6 +207,7 @@ fn done_line<'a>(words: &[&str]) -> Option<Command<'a>>
 #[cfg(test)]
 mod tests {
     use super::{Command, read_command};
+    use crate::numbers::Number;
     use rm_base::name::Name;
     use std::alloc::AllocError;
     use std::test::Fail;
@@ -212,6 +226,14 @@ mod tests {
         let ask = Command::Ask { session, floor: 7 };
         let set = Command::SetPool { session, pool };
         let cases = [
+            ("at 0", Command::At(Number { value: 0 })),
+            ("at  0007", Command::At(Number { value: 7 })),
+            (
+                "at 999999999999999",
+                Command::At(Number {
+                    value: 999_999_999_999_999,
+                }),
+            ),
             ("sql x", Command::Sql("x")),
             ("sql ", Command::Sql("")),
             ("sql  x ;  ", Command::Sql(" x ;  ")),
@@ -240,7 +262,8 @@ mod tests {
 
     /// Lines that give no command, with `|` between them.
     const BAD: &str =
-        "| sql x|sql|sqlx|Sql x|sql\tx|open a|open a dbadmin etl x|Open a dbadmin|open a dbadmin |\
+        "|at|at |at 7 |at 7 7|at a 7|at a|at +7|at -7|at 7.0|at 7ms|at 0000000000000007|at 1000000000000000| at 7|at\t7|\
+        At 7|at7| sql x|sql|sqlx|Sql x|sql\tx|open a|open a dbadmin etl x|Open a dbadmin|open a dbadmin |\
         open\ta dbadmin|open a\tdbadmin|open 1a dbadmin|open min dbadmin|open a Select|open a dbadmin select|\
         open a dbadmin\r| open a dbadmin|set a pool|set a Pool etl|set a pool select|set a cap 7|set a pool etl x|\
         ask a 0000000000000007|ask a 0|ask a +7|ask a|ask a 7 7|ask 7 a|poll|poll a b|poll a |done|done a-b|done a a|\

@@ -38,6 +38,7 @@ usage: poolhost script --memory SIZE --cores COUNT
 Reads a script from standard input and writes what its lines print.
 SIZE is digits and one of K, M, G, T, from 16M to 1024T; COUNT is 1 to 1024.
 Lines of a script:
+  at N                 moves the script's moment on to N milliseconds
   sql TEXT             defines a pool: CREATE RESOURCE POOL .. or ALTER RESOURCE POOL ..
   open S dbadmin       opens a session that the script names S
   open S dbadmin POOL  opens it, and S chooses the pool

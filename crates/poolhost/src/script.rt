@@ -1,4 +1,4 @@
-//! A script that runs: its machine, and its names of the open sessions.
+//! A script that runs: its machine, its names of the open sessions, and its moment.
 
 ghost use Rattle.std.specs.Prelude.{◌≡◌, IfOk};
 ghost use Rattle.rm_base.specs.declared.reply.Reply.TheVariants as reply;
@@ -11,6 +11,7 @@ use crate::command::{Command, read_command};
 use crate::comments::is_comment;
 use crate::lines::readable;
 use crate::names::{LINES_MOST, Named, session_named};
+use crate::numbers::Number;
 use crate::options::Options;
 use crate::texts::{bare_text, chosen_text, line_text, queued_text};
 use machine::desk::Desk;
@@ -31,6 +32,7 @@ use std::alloc::{AllocError, Global};
 pub struct Script {
     desk: Desk,
     names: Vec<Named>,
+    moment: Moment,
 }
 
 /// What a line did: it is bad, or it prints a text.
@@ -49,19 +51,20 @@ impl Script {
     ghost use Rattle.rm_rules.specs.Step.{step, IsFormed};
     ghost use Rattle.poolhost.specs.Commands.{seen_command};
     ghost use Rattle.poolhost.specs.OptionsFacts.{AreWithin};
-    ghost use Rattle.poolhost.specs.Script.{script_start, line_turn, turn, sql_turn, statement_turn, open_turn, opening_turn, chosen_turn, set_pool_turn, ask_turn, poll_turn, done_turn};
+    ghost use Rattle.poolhost.specs.Script.{first_state, line_turn, turn, at_turn, sql_turn, statement_turn, open_turn, opening_turn, chosen_turn, set_pool_turn, ask_turn, poll_turn, done_turn};
     ghost use Rattle.poolhost.specs.SessionNames.{session_named};
     ghost use Rattle.poolhost.specs.Scripts.{seen, seen_turn, IsEarly};
 
     /// A script before its first line.
     pub fn new(alloc: Global, options: Options) -> Result<Script, AllocError>
         requires { AreWithin options }
-        ensures { IfOk result (λ s. seen s ≡ record { machine = script_start options; names = [] }) }
+        ensures { IfOk result (λ s. seen s ≡ first_state options) }
     {
         let definitions = Definitions::new(alloc, options.memory, options.cores)?;
         Ok(Script {
             desk: Desk::new(alloc, definitions, SCRIPT_ROOM)?,
             names: Vec::with_capacity(alloc, SESSIONS_MOST)?,
+            moment: Moment::of(0),
         })
     }
 
@@ -90,6 +93,7 @@ impl Script {
         ensures { IfOk result (λ t. seen_turn t (seen self.new) ≡ turn (seen self.old) (seen_command command.entry)) }
     {
         match command {
+            Command::At(moment) => Ok(self.at(alloc, moment)),
             Command::Sql(text) => self.sql(alloc, text),
             Command::Open {
                 session,
@@ -101,6 +105,18 @@ impl Script {
             Command::Poll { session } => self.poll(alloc, session),
             Command::Done { session } => self.done(alloc, session),
         }
+    }
+
+    /// `at N`
+    fn at(&mut self, alloc: Global, moment: Number) -> Turned
+        ensures { seen_turn result (seen self.new) ≡ at_turn (seen self.old) moment.value }
+    {
+        let moment = Moment::of(moment.value);
+        if moment < self.moment {
+            return Turned::Bad;
+        }
+        self.moment = moment;
+        Turned::Goes(String::new(alloc))
     }
 
     /// `sql TEXT`
@@ -243,13 +259,13 @@ impl Script {
         Ok(Turned::Goes(line_text(alloc, session, reply)?))
     }
 
-    /// Makes a machine call.
+    /// Makes a machine call at the script's moment.
     fn call(&mut self, event: &Event) -> Reply
         requires { IsFormed event.now }
-        ensures reply { result ≡ (step (seen self.old).machine 0 0 event.now).reply }
-        ensures state { seen self.new ≡ record (seen self.old) { machine = (step (seen self.old).machine 0 0 event.now).state } }
+        ensures reply { result ≡ (step (seen self.old).machine 0 (seen self.old).moment event.now).reply }
+        ensures state { seen self.new ≡ record (seen self.old) { machine = (step (seen self.old).machine 0 (seen self.old).moment event.now).state } }
     {
-        self.desk.apply(SEAT, Moment::of(0), event).reply
+        self.desk.apply(SEAT, self.moment, event).reply
     }
 }
 

@@ -103,6 +103,52 @@ fn runs_scripts(rt: HostRuntime) -> Result<(), Fail> {
     run_cases(&rt, rt.alloc(), &cases)
 }
 
+/// Lines on the script's moment that are bad, each as the second line of a script.
+const BAD_MOMENTS: [&str; 10] = [
+    "at",
+    "at ",
+    " at 7",
+    "at 6",
+    "at 7 7",
+    "at +7",
+    "at -7",
+    "at 0000000000000007",
+    "at seven",
+    "At 7",
+];
+
+#[test]
+fn moves_its_moment(rt: HostRuntime) -> Result<(), Fail> {
+    let cases = [
+        ("at 0", 0, ""),
+        ("at 7\nat 7\nat 007\nat 8\n", 0, ""),
+        ("at 999999999999999\nopen a dbadmin", 0, "a opened 1\n"),
+        (
+            "open a dbadmin\nat 7\nask a 1\nat 6\ndone a\n",
+            2,
+            "a opened 1\na admitted 23658496 general 23658496 0\nbad line 4\n",
+        ),
+        ("at 7\nat 0\n", 2, "bad line 2\n"),
+    ];
+    run_cases(&rt, rt.alloc(), &cases)
+}
+
+#[test]
+fn takes_no_other_moments(rt: HostRuntime) -> Result<(), Fail> {
+    let alloc = rt.alloc();
+    for line in BAD_MOMENTS {
+        let script = format!(in alloc; "at 7\n{line}\n")?;
+        let (status, out) = run(alloc, USUAL, script.as_bytes())?;
+        assert_eq!(rt; status, 2, "the status of {line:?}");
+        assert_eq!(rt;
+            out.contents(),
+            b"bad line 2\n".as_slice(),
+            "the text of {line:?}"
+        );
+    }
+    Ok(())
+}
+
 #[test]
 fn refuses_words_and_bytes(rt: HostRuntime) -> Result<(), Fail> {
     let (status, out) = run(rt.alloc(), "script --memory 100M", b"open a dbadmin\n")?;
@@ -221,6 +267,170 @@ fn polls_queries(rt: HostRuntime) -> Result<(), Fail> {
             b toolarge pool 99614720 83886080\nb refused 22\n",
         ),
     ];
+    run_cases(&rt, rt.alloc(), &cases)
+}
+
+/// Two pools that reserve nothing, and 28,639,232 bytes free beside a query of GENERAL: a query of `lo` asks for
+/// 23,658,496 of them, and one of `hi` for 47,316,992.
+const BLOCKED: &str = "sql CREATE RESOURCE POOL hi PRIORITY 1 PLANNEDCONCURRENCY 2 QUEUETIMEOUT 1\n\
+    sql CREATE RESOURCE POOL lo PRIORITY -1\n\
+    open g dbadmin\nopen h dbadmin hi\nopen l dbadmin lo\nask g 70975488\nask h 1\nask l 1\n";
+
+/// What that prints.
+const BLOCKED_TEXT: &str = "ok\nok\ng opened 1\nh opened 2\nl opened 3\n\
+    g admitted 70975488 general 70975488 0\nh queued 1\nl queued 2\n";
+
+/// Runs lines behind `BLOCKED`, each with the text that they must give.
+fn run_behind_blocked(rt: &impl Abort, alloc: Global, cases: &[(&str, &str)]) -> Result<(), Fail> {
+    for (lines, text) in cases {
+        let script = format!(in alloc; "{BLOCKED}{lines}")?;
+        let (status, out) = run(alloc, USUAL, script.as_bytes())?;
+        let whole = format!(in alloc; "{BLOCKED_TEXT}{text}")?;
+        assert_eq!(rt; status, 0, "the status of {lines:?}");
+        assert_eq!(rt; out.contents(), whole.as_bytes(), "the text of {lines:?}");
+    }
+    Ok(())
+}
+
+#[test]
+fn unblocks_what_waits_behind(rt: HostRuntime) -> Result<(), Fail> {
+    let cases = [
+        ("at 999\npoll l\npoll h", "l waiting 2\nh waiting 1\n"),
+        (
+            "at 1000\npoll l\npoll h",
+            "l admitted 23658496 lo 0 23658496\nh timedout 1000\n",
+        ),
+        (
+            "sql ALTER RESOURCE POOL hi QUEUETIMEOUT 0\npoll l\npoll h",
+            "ok\nl admitted 23658496 lo 0 23658496\nh timedout 0\n",
+        ),
+        (
+            "sql ALTER RESOURCE POOL hi PRIORITY -2\npoll l\npoll h",
+            "ok\nl admitted 23658496 lo 0 23658496\nh waiting 1\n",
+        ),
+        (
+            "sql ALTER RESOURCE POOL hi PRIORITY -1\npoll l",
+            "ok\nl waiting 2\n",
+        ),
+        (
+            "done g\npoll h\npoll l",
+            "g released 70975488\nh admitted 47316992 hi 0 47316992\nl admitted 23658496 lo 0 23658496\n",
+        ),
+    ];
+    run_behind_blocked(&rt, rt.alloc(), &cases)
+}
+
+/// `l` is queued before `h`, and both wait. What comes back first would do for `l` alone.
+#[test]
+fn goes_by_priorities(rt: HostRuntime) -> Result<(), Fail> {
+    let cases = [
+        (
+            "sql CREATE RESOURCE POOL hi PRIORITY 1 PLANNEDCONCURRENCY 2\n\
+            open a dbadmin\nopen b dbadmin\nopen l dbadmin\nopen h dbadmin hi\n\
+            ask a 70975488\nask b 1\nask l 1\nask h 1\ndone b\npoll l\ndone a\npoll h",
+            0,
+            "ok\na opened 1\nb opened 2\nl opened 3\nh opened 4\n\
+            a admitted 70975488 general 70975488 0\nb admitted 23658496 general 23658496 0\nl queued 1\nh queued 2\n\
+            b released 23658496\nl waiting 1\na released 70975488\nh admitted 47316992 hi 0 47316992\n",
+        ),
+        (
+            "sql CREATE RESOURCE POOL hi PLANNEDCONCURRENCY 2\n\
+            open a dbadmin\nopen b dbadmin\nopen l dbadmin\nopen h dbadmin hi\n\
+            ask a 70975488\nask b 1\nask l 1\nask h 1\ndone b\npoll l\npoll h",
+            0,
+            "ok\na opened 1\nb opened 2\nl opened 3\nh opened 4\n\
+            a admitted 70975488 general 70975488 0\nb admitted 23658496 general 23658496 0\nl queued 1\nh queued 2\n\
+            b released 23658496\nl admitted 23658496 general 23658496 0\nh waiting 1\n",
+        ),
+    ];
+    run_cases(&rt, rt.alloc(), &cases)
+}
+
+/// A query whose own pool is full holds up no other pool.
+#[test]
+fn runs_so_many_at_a_time(rt: HostRuntime) -> Result<(), Fail> {
+    let cases = [(
+        "sql CREATE RESOURCE POOL one PRIORITY 1 MAXCONCURRENCY 1\n\
+        open a dbadmin one\nopen b dbadmin one\nopen c dbadmin\nopen d dbadmin one\n\
+        ask a 1\nask b 1\nask c 1\ndone a\npoll b\n\
+        ask d 1\nsql ALTER RESOURCE POOL one MAXCONCURRENCY 2\npoll d",
+        0,
+        "ok\na opened 1\nb opened 2\nc opened 3\nd opened 4\n\
+        a admitted 23658496 one 0 23658496\nb queued 1\nc admitted 23658496 general 23658496 0\n\
+        a released 23658496\nb admitted 23658496 one 0 23658496\n\
+        d queued 1\nok\nd admitted 23658496 one 0 23658496\n",
+    )];
+    run_cases(&rt, rt.alloc(), &cases)
+}
+
+/// `b` waits for the one place in its pool, which `a` has.
+#[test]
+fn ends_at_deadlines(rt: HostRuntime) -> Result<(), Fail> {
+    let cases = [
+        (
+            "sql CREATE RESOURCE POOL one MAXCONCURRENCY 1 QUEUETIMEOUT 5\n\
+            open a dbadmin one\nopen b dbadmin one\nat 10\nask a 1\nask b 1\n\
+            at 5009\npoll b\nat 5010\npoll b\npoll b\nask b 1\nat 99999\ndone a\npoll b",
+            0,
+            "ok\na opened 1\nb opened 2\na admitted 23658496 one 0 23658496\nb queued 1\n\
+            b waiting 1\nb timedout 5010\nb refused 22\nb queued 1\na released 23658496\nb timedout 10010\n",
+        ),
+        (
+            "open a dbadmin\nopen b dbadmin\nask a 99614720\nask b 1\nat 299999\npoll b\nat 300000\npoll b",
+            0,
+            "a opened 1\nb opened 2\na admitted 99614720 general 99614720 0\nb queued 1\nb waiting 1\n\
+            b timedout 300000\n",
+        ),
+        (
+            "sql CREATE RESOURCE POOL one MAXCONCURRENCY 1 QUEUETIMEOUT NONE\n\
+            open a dbadmin one\nopen b dbadmin one\nask a 1\nask b 1\nat 999999999999999\npoll b",
+            0,
+            "ok\na opened 1\nb opened 2\na admitted 23658496 one 0 23658496\nb queued 1\nb waiting 1\n",
+        ),
+    ];
+    run_cases(&rt, rt.alloc(), &cases)
+}
+
+/// A statement sets no deadline back that has come, and brings none itself but with QUEUETIMEOUT 0.
+#[test]
+fn deadlines_go_by_the_statements_before(rt: HostRuntime) -> Result<(), Fail> {
+    let cases = [
+        (
+            "sql CREATE RESOURCE POOL one MAXCONCURRENCY 1 QUEUETIMEOUT 5\n\
+            open a dbadmin one\nopen b dbadmin one\nask a 1\nask b 1\n\
+            at 5000\nsql ALTER RESOURCE POOL one QUEUETIMEOUT NONE\npoll b",
+            0,
+            "ok\na opened 1\nb opened 2\na admitted 23658496 one 0 23658496\nb queued 1\nok\nb timedout 5000\n",
+        ),
+        (
+            "sql CREATE RESOURCE POOL one MAXCONCURRENCY 1 QUEUETIMEOUT 9\n\
+            open a dbadmin one\nopen b dbadmin one\nask a 1\nask b 1\n\
+            at 5000\nsql ALTER RESOURCE POOL one QUEUETIMEOUT 5 MAXCONCURRENCY 2\npoll b",
+            0,
+            "ok\na opened 1\nb opened 2\na admitted 23658496 one 0 23658496\nb queued 1\nok\n\
+            b admitted 23658496 one 0 23658496\n",
+        ),
+        (
+            "sql CREATE RESOURCE POOL one MAXCONCURRENCY 1 QUEUETIMEOUT 9\n\
+            open a dbadmin one\nopen b dbadmin one\nask a 1\nask b 1\n\
+            at 5000\nsql ALTER RESOURCE POOL one QUEUETIMEOUT 5\npoll b",
+            0,
+            "ok\na opened 1\nb opened 2\na admitted 23658496 one 0 23658496\nb queued 1\nok\nb timedout 5000\n",
+        ),
+    ];
+    run_cases(&rt, rt.alloc(), &cases)
+}
+
+/// A query that may not wait ends at once, and leaves its session free for the next.
+#[test]
+fn waits_for_nothing(rt: HostRuntime) -> Result<(), Fail> {
+    let cases = [(
+        "sql CREATE RESOURCE POOL one MAXCONCURRENCY 1 QUEUETIMEOUT 0\n\
+        open a dbadmin one\nopen b dbadmin one\nask a 1\nask b 1\nat 7\nask b 1\npoll b\ndone a\nask b 1",
+        0,
+        "ok\na opened 1\nb opened 2\na admitted 23658496 one 0 23658496\nb timedout 0\nb timedout 7\nb refused 22\n\
+        a released 23658496\nb admitted 23658496 one 0 23658496\n",
+    )];
     run_cases(&rt, rt.alloc(), &cases)
 }
 

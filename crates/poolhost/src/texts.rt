@@ -108,3 +108,33 @@ pub fn bad_text(alloc: Global, number: u64) -> Result<String, AllocError>
 {
     format!(in alloc; "bad line {number}\n")
 }
+
+#[cfg(test)]
+mod tests {
+    use super::{line_text, queued_text};
+    use rm_base::name::Name;
+    use rm_base::reply::{End, Reply};
+    use std::test::Fail;
+
+    #[test]
+    fn prints_how_a_query_timed_out(rt: HostRuntime) -> Result<(), Fail> {
+        let session = Name::of("a").ok_or("no name")?;
+        let reply = Reply::Ended(End::TimedOut(62_000));
+        let submitted = queued_text(rt.alloc(), session, reply)?;
+        assert_eq!(rt; submitted.as_str(), "a timedout 62000\n");
+        let polled = line_text(rt.alloc(), session, reply)?;
+        assert_eq!(rt; polled.as_str(), "a timedout 62000\n");
+        Ok(())
+    }
+
+    #[test]
+    fn prints_places(rt: HostRuntime) -> Result<(), Fail> {
+        let session = Name::of("a").ok_or("no name")?;
+        let reply = Reply::Waiting { query: 7, place: 2 };
+        let submitted = queued_text(rt.alloc(), session, reply)?;
+        assert_eq!(rt; submitted.as_str(), "a queued 2\n");
+        let polled = line_text(rt.alloc(), session, reply)?;
+        assert_eq!(rt; polled.as_str(), "a waiting 2\n");
+        Ok(())
+    }
+}

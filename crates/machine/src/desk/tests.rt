@@ -11,7 +11,7 @@ use rm_base::moment::Moment;
 use rm_base::name::Name;
 use rm_base::refusal::{CapKind, Refusal};
 use rm_base::reply::{End, Reply};
-use rm_base::snapshot::{Condition, RunningSeen, Snapshot};
+use rm_base::snapshot::{Condition, Looked, RunningSeen, Snapshot};
 use rm_base::statement::{PoolChange, Size, Statement};
 use rm_base::tables::{Grants, Pools, Roles, Users};
 use std::alloc::Global;
@@ -89,7 +89,7 @@ fn mib(count: u16) -> Size
     Size::Bytes(u64::from(count) * 1_048_576)
 }
 
-/// What is done, in a session or to a pool. Sizes of pools are in MiB, floors in bytes, timeouts in milliseconds.
+/// What is done, in a session or to a pool. Sizes of pools are in MiB, floors in bytes.
 #[derive(Clone, Copy)]
 enum Does {
     Opens,
@@ -100,10 +100,9 @@ enum Does {
     Creates(Name, u16),
     Resizes(Name, u16),
     Limits(Name, u16),
-    Waits(Name, u32),
 }
 
-/// Resizes names MEMORYSIZE, Limits names MAXMEMORYSIZE, Waits names QUEUETIMEOUT.
+/// Resizes names MEMORYSIZE, Limits names MAXMEMORYSIZE.
 fn event_of(does: Does) -> Event
     ensures { IsFormed result }
 {
@@ -124,43 +123,30 @@ fn event_of(does: Does) -> Event
         Does::Limits(pool, size) => {
             Event::Define(Statement::AlterPool(pool, change(None, Some(Some(mib(size))))))
         }
-        Does::Waits(pool, ms) => {
-            let mut change = change(None, None);
-            change.queue_ms = Some(Some(u64::from(ms)));
-            Event::Define(Statement::AlterPool(pool, change))
-        }
     }
 }
 
-/// The moment and what is done, and then the reply and how many entries there are.
-type Turn = (u64, Does, Reply, u64);
+/// The moment and what is done, and then the reply, how many entries there are, the first pool's actual size or 0,
+/// and the memory in force.
+type Turn = (u64, Does, Reply, u64, u64, u64);
 
-fn plays(rt: &impl Abort, desk: &mut Desk, turns: &[Turn]) {
-    for (ms, does, reply, place) in turns {
+/// The first pool's actual size, or 0, and the memory in force.
+fn bytes(looked: &Looked) -> (u64, u64) {
+    let actual = looked.snapshot.actual.as_slice();
+    (
+        actual.first().copied().unwrap_or(0),
+        looked.snapshot.in_force,
+    )
+}
+
+fn plays(rt: &impl Abort, alloc: Global, desk: &mut Desk, turns: &[Turn]) -> Result<(), Fail> {
+    for (ms, does, reply, place, size, in_force) in turns {
         let answered = desk.apply(0, Moment::of(*ms), &event_of(*does));
         assert_eq!(rt; answered.reply, *reply);
         assert_eq!(rt; answered.place, *place);
+        let looked = desk.look(alloc)?;
+        assert_eq!(rt; bytes(&looked), (*size, *in_force));
     }
-}
-
-/// The first pool's actual size, or 0, and the memory in force.
-fn bytes(alloc: Global, desk: &Desk) -> Result<(u64, u64), Fail> {
-    let snapshot = desk.look(alloc)?.snapshot;
-    let size = snapshot.actual.as_slice().first().copied().unwrap_or(0);
-    Ok((size, snapshot.in_force))
-}
-
-/// One turn, after which the first pool has this size and this much is in force.
-fn leaves(
-    rt: &impl Abort,
-    alloc: Global,
-    desk: &mut Desk,
-    turn: Turn,
-    size: u64,
-    in_force: u64,
-) -> Result<(), Fail> {
-    plays(rt, desk, &[turn]);
-    assert_eq!(rt; bytes(alloc, desk)?, (size, in_force));
     Ok(())
 }
 
@@ -177,17 +163,6 @@ fn admitted(query: u64, pool: Name, own: u64, borrowed: u64) -> Reply
     }
 }
 
-/// What a query is told that waits in this place.
-fn waiting(query: u64, place: u64) -> Reply {
-    Reply::Waiting { query, place }
-}
-
-/// What a query of a pool that reserves nothing gets: a quarter of 95 percent of the total.
-const SHARE: u64 = 23_658_496;
-
-/// What a query of `etl` gets: a half of what the pool has.
-const HALF: u64 = 10_485_760;
-
 #[test]
 fn a_pool_borrows_and_its_queue_waits(rt: HostRuntime) -> Result<(), Fail> {
     let etl = Name::of("etl").ok_or("no name")?;
@@ -195,22 +170,69 @@ fn a_pool_borrows_and_its_queue_waits(rt: HostRuntime) -> Result<(), Fail> {
     // After the fourth the pool uses 41,943,040 bytes, and its threshold is 39,845,888. The place of session 2 is taken
     // at once: then session 5 runs.
     let turns = [
-        (5, Does::Opens, Reply::Opened(1), 1),
-        (5, Does::Submits(1, 0), admitted(1, etl, HALF, 0), 2),
-        (5, Does::Opens, Reply::Opened(2), 3),
-        (5, Does::Submits(2, 0), admitted(2, etl, HALF, 0), 4),
-        (5, Does::Opens, Reply::Opened(3), 5),
-        (5, Does::Submits(3, 0), admitted(3, etl, 0, HALF), 6),
-        (5, Does::Opens, Reply::Opened(4), 7),
-        (5, Does::Submits(4, 0), admitted(4, etl, 0, HALF), 8),
-        (5, Does::Opens, Reply::Opened(5), 9),
-        (5, Does::Submits(5, 0), waiting(5, 1), 10),
-        (3, Does::Finishes(2), Reply::Released(HALF), 11),
-        (3, Does::Finishes(5), Reply::Released(HALF), 12),
+        (5, Does::Opens, Reply::Opened(1), 1, 20_971_520, TOTAL),
+        (
+            5,
+            Does::Submits(1, 0),
+            admitted(1, etl, 10_485_760, 0),
+            2,
+            20_971_520,
+            TOTAL,
+        ),
+        (5, Does::Opens, Reply::Opened(2), 3, 20_971_520, TOTAL),
+        (
+            5,
+            Does::Submits(2, 0),
+            admitted(2, etl, 10_485_760, 0),
+            4,
+            20_971_520,
+            TOTAL,
+        ),
+        (5, Does::Opens, Reply::Opened(3), 5, 20_971_520, TOTAL),
+        (
+            5,
+            Does::Submits(3, 0),
+            admitted(3, etl, 0, 10_485_760),
+            6,
+            20_971_520,
+            TOTAL,
+        ),
+        (5, Does::Opens, Reply::Opened(4), 7, 20_971_520, TOTAL),
+        (
+            5,
+            Does::Submits(4, 0),
+            admitted(4, etl, 0, 10_485_760),
+            8,
+            20_971_520,
+            TOTAL,
+        ),
+        (5, Does::Opens, Reply::Opened(5), 9, 20_971_520, TOTAL),
+        (
+            5,
+            Does::Submits(5, 0),
+            Reply::Waiting { query: 5, place: 1 },
+            10,
+            20_971_520,
+            TOTAL,
+        ),
+        (
+            3,
+            Does::Finishes(2),
+            Reply::Released(10_485_760),
+            11,
+            20_971_520,
+            TOTAL,
+        ),
+        (
+            3,
+            Does::Finishes(5),
+            Reply::Released(10_485_760),
+            12,
+            20_971_520,
+            TOTAL,
+        ),
     ];
-    plays(&rt, &mut desk, &turns);
-    assert_eq!(rt; bytes(rt.alloc(), &desk)?, (20_971_520, TOTAL));
-    Ok(())
+    plays(&rt, rt.alloc(), &mut desk, &turns)
 }
 
 #[test]
@@ -218,24 +240,74 @@ fn a_refusal_makes_no_entry(rt: HostRuntime) -> Result<(), Fail> {
     let general = Name::general();
     let x = Name::of("x").ok_or("no name")?;
     let mut desk = Desk::new(rt.alloc(), general_alone(rt.alloc())?, 44)?;
-    let no_pool = Reply::Refused(Refusal::NoSuchPool(x));
-    let no_session = Reply::Refused(Refusal::NoSuchSession);
-    let not_live = Reply::Refused(Refusal::NotLive);
-    let large = Refusal::TooLarge(CapKind::Pool, 99_614_721, 99_614_720);
     let turns = [
-        (7, Does::Opens, Reply::Opened(1), 1),
-        (8, Does::Chooses(1, x), no_pool, 1),
-        (8, Does::Chooses(2, general), no_session, 1),
-        (8, Does::Polls(1), not_live, 1),
-        (8, Does::Polls(2), no_session, 1),
-        (8, Does::Finishes(1), not_live, 1),
-        (8, Does::Submits(1, 99_614_721), Reply::Refused(large), 1),
-        (9, Does::Submits(1, 0), admitted(1, general, SHARE, 0), 2),
-        (9, Does::Opens, Reply::Refused(Refusal::JournalFull(44)), 2),
+        (7, Does::Opens, Reply::Opened(1), 1, 0, TOTAL),
+        (
+            8,
+            Does::Chooses(1, x),
+            Reply::Refused(Refusal::NoSuchPool(x)),
+            1,
+            0,
+            TOTAL,
+        ),
+        (
+            8,
+            Does::Chooses(2, general),
+            Reply::Refused(Refusal::NoSuchSession),
+            1,
+            0,
+            TOTAL,
+        ),
+        (
+            8,
+            Does::Polls(1),
+            Reply::Refused(Refusal::NotLive),
+            1,
+            0,
+            TOTAL,
+        ),
+        (
+            8,
+            Does::Polls(2),
+            Reply::Refused(Refusal::NoSuchSession),
+            1,
+            0,
+            TOTAL,
+        ),
+        (
+            8,
+            Does::Finishes(1),
+            Reply::Refused(Refusal::NotLive),
+            1,
+            0,
+            TOTAL,
+        ),
+        (
+            8,
+            Does::Submits(1, 99_614_721),
+            Reply::Refused(Refusal::TooLarge(CapKind::Pool, 99_614_721, 99_614_720)),
+            1,
+            0,
+            TOTAL,
+        ),
+        (
+            9,
+            Does::Submits(1, 0),
+            admitted(1, general, 23_658_496, 0),
+            2,
+            0,
+            TOTAL,
+        ),
+        (
+            9,
+            Does::Opens,
+            Reply::Refused(Refusal::JournalFull(44)),
+            2,
+            0,
+            TOTAL,
+        ),
     ];
-    plays(&rt, &mut desk, &turns);
-    assert_eq!(rt; bytes(rt.alloc(), &desk)?, (0, TOTAL));
-    Ok(())
+    plays(&rt, rt.alloc(), &mut desk, &turns)
 }
 
 /// Another seat tries each, in vain.
@@ -251,7 +323,8 @@ fn has_no_session(rt: &impl Abort, desk: &mut Desk, tries: &[Does]) {
 fn another_seat_has_no_such_session(rt: HostRuntime) -> Result<(), Fail> {
     let pool = Name::general();
     let mut desk = Desk::new(rt.alloc(), general_alone(rt.alloc())?, 1_000)?;
-    plays(&rt, &mut desk, &[(7, Does::Opens, Reply::Opened(1), 1)]);
+    let turns = [(7, Does::Opens, Reply::Opened(1), 1, 0, TOTAL)];
+    plays(&rt, rt.alloc(), &mut desk, &turns)?;
     let tries = [Does::Chooses(1, pool), Does::Polls(1), Does::Finishes(1)];
     has_no_session(&rt, &mut desk, &tries);
     Ok(())
@@ -264,31 +337,65 @@ fn pools_are_created_and_resized(rt: HostRuntime) -> Result<(), Fail> {
     let mut desk = Desk::new(rt.alloc(), general_alone(rt.alloc())?, 1_000)?;
     // Of 99,614,720 bytes the two pools would leave 5,242,880, and a quarter is 24,903,680.
     let small = Refusal::GeneralTooSmall(5_242_880, 24_903_680);
-    let cases = [
-        (3, Does::Creates(r, 20), Reply::Defined, 1, 20_971_520),
-        (4, Does::Resizes(r, 30), Reply::Defined, 2, 31_457_280),
-        (5, Does::Resizes(r, 10), Reply::Defined, 3, 10_485_760),
-        (6, Does::Resizes(r, 10), Reply::Defined, 4, 10_485_760),
-    ];
-    for (ms, does, reply, place, size) in cases {
-        leaves(
-            &rt,
-            rt.alloc(),
-            &mut desk,
-            (ms, does, reply, place),
-            size,
-            TOTAL,
-        )?;
-    }
-    let taken = Reply::Refused(Refusal::NameTaken);
-    let no_pool = Reply::Refused(Refusal::NoSuchPool(x));
     let turns = [
-        (7, Does::Creates(r, 20), taken, 4),
-        (7, Does::Resizes(x, 20), no_pool, 4),
-        (7, Does::Creates(x, 80), Reply::Refused(small), 4),
+        (
+            3,
+            Does::Creates(r, 20),
+            Reply::Defined,
+            1,
+            20_971_520,
+            TOTAL,
+        ),
+        (
+            4,
+            Does::Resizes(r, 30),
+            Reply::Defined,
+            2,
+            31_457_280,
+            TOTAL,
+        ),
+        (
+            5,
+            Does::Resizes(r, 10),
+            Reply::Defined,
+            3,
+            10_485_760,
+            TOTAL,
+        ),
+        (
+            6,
+            Does::Resizes(r, 10),
+            Reply::Defined,
+            4,
+            10_485_760,
+            TOTAL,
+        ),
+        (
+            7,
+            Does::Creates(r, 20),
+            Reply::Refused(Refusal::NameTaken),
+            4,
+            10_485_760,
+            TOTAL,
+        ),
+        (
+            7,
+            Does::Resizes(x, 20),
+            Reply::Refused(Refusal::NoSuchPool(x)),
+            4,
+            10_485_760,
+            TOTAL,
+        ),
+        (
+            7,
+            Does::Creates(x, 80),
+            Reply::Refused(small),
+            4,
+            10_485_760,
+            TOTAL,
+        ),
     ];
-    plays(&rt, &mut desk, &turns);
-    assert_eq!(rt; bytes(rt.alloc(), &desk)?, (10_485_760, TOTAL));
+    plays(&rt, rt.alloc(), &mut desk, &turns)?;
     assert_eq!(rt; desk.definitions().pools.rows().len(), 2);
     Ok(())
 }
@@ -297,42 +404,86 @@ fn pools_are_created_and_resized(rt: HostRuntime) -> Result<(), Fail> {
 fn what_changes_nothing_leaves_the_clock(rt: HostRuntime) -> Result<(), Fail> {
     let general = Name::general();
     let mut desk = Desk::new(rt.alloc(), general_alone(rt.alloc())?, 1_000)?;
-    let runs = admitted(1, general, SHARE, 0);
-    let taken = Reply::Refused(Refusal::NameTaken);
+    let runs = admitted(1, general, 23_658_496, 0);
     let turns = [
-        (5, Does::Opens, Reply::Opened(1), 1),
-        (6, Does::Submits(1, 0), runs, 2),
-        (9, Does::Chooses(1, general), Reply::Set, 3),
-        (100, Does::Polls(1), runs, 3),
-        (100, Does::Chooses(1, general), Reply::Set, 3),
-        (100, Does::Creates(general, 1), taken, 3),
-        (8, Does::Finishes(1), Reply::Released(SHARE), 4),
+        (5, Does::Opens, Reply::Opened(1), 1, 0, TOTAL),
+        (6, Does::Submits(1, 0), runs, 2, 0, TOTAL),
+        (9, Does::Chooses(1, general), Reply::Set, 3, 0, TOTAL),
+        (100, Does::Polls(1), runs, 3, 0, TOTAL),
+        (100, Does::Chooses(1, general), Reply::Set, 3, 0, TOTAL),
+        (
+            100,
+            Does::Creates(general, 1),
+            Reply::Refused(Refusal::NameTaken),
+            3,
+            0,
+            TOTAL,
+        ),
+        (
+            8,
+            Does::Finishes(1),
+            Reply::Released(23_658_496),
+            4,
+            0,
+            TOTAL,
+        ),
     ];
-    plays(&rt, &mut desk, &turns);
+    plays(&rt, rt.alloc(), &mut desk, &turns)?;
     assert_eq!(rt; desk.entries().last().map(|e| e.at), Some(Moment::of(9)));
     Ok(())
 }
 
-/// What a query of GENERAL gets where GENERAL's MAXMEMORYSIZE is 80 MiB.
-const LESS: u64 = 19_922_944;
-
-/// GENERAL of 80 MiB, in which four queries run. There are 9 entries.
+/// GENERAL of 80 MiB, in which four queries run.
 fn with_four(rt: &impl Abort, alloc: Global) -> Result<Desk, Fail> {
     let general = Name::general();
     let mut desk = Desk::new(alloc, general_alone(alloc)?, 1_000)?;
     let turns = [
-        (1, Does::Limits(general, 80), Reply::Defined, 1),
-        (5, Does::Opens, Reply::Opened(1), 2),
-        (5, Does::Submits(1, 0), admitted(1, general, LESS, 0), 3),
-        (5, Does::Opens, Reply::Opened(2), 4),
-        (5, Does::Submits(2, 0), admitted(2, general, LESS, 0), 5),
-        (5, Does::Opens, Reply::Opened(3), 6),
-        (5, Does::Submits(3, 0), admitted(3, general, LESS, 0), 7),
-        (5, Does::Opens, Reply::Opened(4), 8),
-        (5, Does::Submits(4, 0), admitted(4, general, LESS, 0), 9),
+        (
+            1,
+            Does::Limits(general, 80),
+            Reply::Defined,
+            1,
+            0,
+            83_886_080,
+        ),
+        (5, Does::Opens, Reply::Opened(1), 2, 0, 83_886_080),
+        (
+            5,
+            Does::Submits(1, 0),
+            admitted(1, general, 19_922_944, 0),
+            3,
+            0,
+            83_886_080,
+        ),
+        (5, Does::Opens, Reply::Opened(2), 4, 0, 83_886_080),
+        (
+            5,
+            Does::Submits(2, 0),
+            admitted(2, general, 19_922_944, 0),
+            5,
+            0,
+            83_886_080,
+        ),
+        (5, Does::Opens, Reply::Opened(3), 6, 0, 83_886_080),
+        (
+            5,
+            Does::Submits(3, 0),
+            admitted(3, general, 19_922_944, 0),
+            7,
+            0,
+            83_886_080,
+        ),
+        (5, Does::Opens, Reply::Opened(4), 8, 0, 83_886_080),
+        (
+            5,
+            Does::Submits(4, 0),
+            admitted(4, general, 19_922_944, 0),
+            9,
+            0,
+            83_886_080,
+        ),
     ];
-    plays(rt, &mut desk, &turns);
-    assert_eq!(rt; bytes(alloc, &desk)?, (0, 83_886_080));
+    plays(rt, alloc, &mut desk, &turns)?;
     Ok(desk)
 }
 
@@ -340,47 +491,74 @@ fn with_four(rt: &impl Abort, alloc: Global) -> Result<Desk, Fail> {
 fn a_pool_grows_as_bytes_come_free(rt: HostRuntime) -> Result<(), Fail> {
     let r = Name::of("r").ok_or("no name")?;
     let mut desk = with_four(&rt, rt.alloc())?;
-    let back = Reply::Released(LESS);
-    let cases = [
-        (Does::Creates(r, 30), Reply::Defined, 10, 4_194_304),
-        (Does::Finishes(1), back, 11, 24_117_248),
-        (Does::Finishes(2), back, 12, 31_457_280),
-    ];
-    for (does, reply, place, size) in cases {
-        leaves(
-            &rt,
-            rt.alloc(),
-            &mut desk,
-            (9, does, reply, place),
-            size,
+    let turns = [
+        (
+            9,
+            Does::Creates(r, 30),
+            Reply::Defined,
+            10,
+            4_194_304,
             83_886_080,
-        )?;
-    }
-    Ok(())
+        ),
+        (
+            9,
+            Does::Finishes(1),
+            Reply::Released(19_922_944),
+            11,
+            24_117_248,
+            83_886_080,
+        ),
+        (
+            9,
+            Does::Finishes(2),
+            Reply::Released(19_922_944),
+            12,
+            31_457_280,
+            83_886_080,
+        ),
+    ];
+    plays(&rt, rt.alloc(), &mut desk, &turns)
 }
 
 #[test]
 fn the_memory_in_force_falls_as_queries_end(rt: HostRuntime) -> Result<(), Fail> {
     let general = Name::general();
     let mut desk = with_four(&rt, rt.alloc())?;
-    let back = Reply::Released(LESS);
-    let cases = [
-        (Does::Limits(general, 30), Reply::Defined, 10, 79_691_776),
-        (Does::Finishes(1), back, 11, 59_768_832),
-        (Does::Finishes(2), back, 12, 39_845_888),
-        (Does::Finishes(3), back, 13, 31_457_280),
-    ];
-    for (does, reply, place, in_force) in cases {
-        leaves(
-            &rt,
-            rt.alloc(),
-            &mut desk,
-            (9, does, reply, place),
+    let turns = [
+        (
+            9,
+            Does::Limits(general, 30),
+            Reply::Defined,
+            10,
             0,
-            in_force,
-        )?;
-    }
-    Ok(())
+            79_691_776,
+        ),
+        (
+            9,
+            Does::Finishes(1),
+            Reply::Released(19_922_944),
+            11,
+            0,
+            59_768_832,
+        ),
+        (
+            9,
+            Does::Finishes(2),
+            Reply::Released(19_922_944),
+            12,
+            0,
+            39_845_888,
+        ),
+        (
+            9,
+            Does::Finishes(3),
+            Reply::Released(19_922_944),
+            13,
+            0,
+            31_457_280,
+        ),
+    ];
+    plays(&rt, rt.alloc(), &mut desk, &turns)
 }
 
 /// How many queries of GENERAL ended because they were too large.
@@ -396,15 +574,42 @@ fn a_query_that_became_too_large_ends(rt: HostRuntime) -> Result<(), Fail> {
     let mut desk = with_four(&rt, rt.alloc())?;
     let end = End::TooLarge(CapKind::Pool, 62_914_560, 52_428_800);
     let turns = [
-        (9, Does::Opens, Reply::Opened(5), 10),
-        (9, Does::Submits(5, 62_914_560), waiting(5, 1), 11),
-        (9, Does::Limits(general, 50), Reply::Defined, 12),
-        (9, Does::Polls(5), Reply::Ended(end), 13),
-        (9, Does::Polls(5), Reply::Refused(Refusal::NotLive), 13),
-        (9, Does::Submits(5, 0), waiting(6, 1), 14),
+        (9, Does::Opens, Reply::Opened(5), 10, 0, 83_886_080),
+        (
+            9,
+            Does::Submits(5, 62_914_560),
+            Reply::Waiting { query: 5, place: 1 },
+            11,
+            0,
+            83_886_080,
+        ),
+        (
+            9,
+            Does::Limits(general, 50),
+            Reply::Defined,
+            12,
+            0,
+            79_691_776,
+        ),
+        (9, Does::Polls(5), Reply::Ended(end), 13, 0, 79_691_776),
+        (
+            9,
+            Does::Polls(5),
+            Reply::Refused(Refusal::NotLive),
+            13,
+            0,
+            79_691_776,
+        ),
+        (
+            9,
+            Does::Submits(5, 0),
+            Reply::Waiting { query: 6, place: 1 },
+            14,
+            0,
+            79_691_776,
+        ),
     ];
-    plays(&rt, &mut desk, &turns);
-    assert_eq!(rt; bytes(rt.alloc(), &desk)?, (0, 79_691_776));
+    plays(&rt, rt.alloc(), &mut desk, &turns)?;
     assert_eq!(rt; too_large(rt.alloc(), &desk)?, Some(1));
     Ok(())
 }
@@ -445,20 +650,40 @@ fn shows_sessions(rt: &impl Abort, snapshot: &Snapshot, conditions: &[Condition]
 #[test]
 fn a_look_shows_queries_in_their_orders(rt: HostRuntime) -> Result<(), Fail> {
     let etl = Name::of("etl").ok_or("no name")?;
-    let whole = 20_971_520;
     let mut desk = Desk::new(rt.alloc(), with_etl(rt.alloc())?, 1_000)?;
     let turns = [
-        (5, Does::Opens, Reply::Opened(1), 1),
-        (9, Does::Submits(1, whole), admitted(1, etl, whole, 0), 2),
-        (9, Does::Opens, Reply::Opened(2), 3),
-        (9, Does::Submits(2, whole), admitted(2, etl, 0, whole), 4),
-        (9, Does::Opens, Reply::Opened(3), 5),
-        (9, Does::Submits(3, 0), waiting(3, 1), 6),
-        (9, Does::Opens, Reply::Opened(4), 7),
+        (5, Does::Opens, Reply::Opened(1), 1, 20_971_520, TOTAL),
+        (
+            9,
+            Does::Submits(1, 20_971_520),
+            admitted(1, etl, 20_971_520, 0),
+            2,
+            20_971_520,
+            TOTAL,
+        ),
+        (9, Does::Opens, Reply::Opened(2), 3, 20_971_520, TOTAL),
+        (
+            9,
+            Does::Submits(2, 20_971_520),
+            admitted(2, etl, 0, 20_971_520),
+            4,
+            20_971_520,
+            TOTAL,
+        ),
+        (9, Does::Opens, Reply::Opened(3), 5, 20_971_520, TOTAL),
+        (
+            9,
+            Does::Submits(3, 0),
+            Reply::Waiting { query: 3, place: 1 },
+            6,
+            20_971_520,
+            TOTAL,
+        ),
+        (9, Does::Opens, Reply::Opened(4), 7, 20_971_520, TOTAL),
     ];
-    plays(&rt, &mut desk, &turns);
+    plays(&rt, rt.alloc(), &mut desk, &turns)?;
     let looked = desk.look(rt.alloc())?;
-    let runs = [seen(1, etl, whole, 0), seen(2, etl, 0, whole)];
+    let runs = [seen(1, etl, 20_971_520, 0), seen(2, etl, 0, 20_971_520)];
     shows_queries(&rt, &looked.snapshot, &runs, &[3]);
     let conditions = [
         Condition::Running,

@@ -17,5 +17,5 @@ returns-in_ok-bare_text-in-Ok c =
     let is : is_pool_statement statement ≡ true = search rules in
     let ok : IsOk (accepted s.machine.definitions statement) = subst (λ (d : Definitions). IsOk (accepted d statement)) c.definitions.ensures.value c.in-Ok.ensures.ok in
     ap (λ text. Goes text (seen c.call-reply.new.self)) (c.in_ok-bare_text-in-Ok.ensures ∙ ap bare_text c.call-reply.ensures.reply)
-    ∙ ap (λ (left : ScriptState). Goes (bare_text (step s.machine 0 0 (event.Define statement)).reply) left) c.call-reply.ensures.state
+    ∙ ap (λ (left : ScriptState). Goes (bare_text (step s.machine 0 s.moment (event.Define statement)).reply) left) c.call-reply.ensures.state
     ∙ sym (statement-ok s statement is ok)
