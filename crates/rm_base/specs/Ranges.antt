@@ -44,16 +44,16 @@ is_user_in_range user =
     passes_if_set (λ n. nat_le n MEMORY_MOST) user.memory_cap && passes_if_set (is_between 1 SPAN_MOST) user.cap_ms
 
 -- a size is at most the greatest in bytes, or the whole
-abbrev pub is_size : Size → Bool
-is_size (Bytes n) = nat_le n MEMORY_MOST
-is_size (Percent n) = nat_le n PERCENT_MOST
+abbrev pub is_size_in_range : Size → Bool
+is_size_in_range (Bytes n) = nat_le n MEMORY_MOST
+is_size_in_range (Percent n) = nat_le n PERCENT_MOST
 
 -- every value that is named for a pool is in its range
 abbrev pub is_pool_change_in_range : PoolChange → Bool
 is_pool_change_in_range c =
-    passes_if_set is_size c.memory
-    && (passes_if_set (passes_if_set is_size) c.max
-    && (passes_if_set (passes_if_set is_size) c.query_max
+    passes_if_set is_size_in_range c.memory
+    && (passes_if_set (passes_if_set is_size_in_range) c.max
+    && (passes_if_set (passes_if_set is_size_in_range) c.query_max
     && (passes_if_set (passes_if_set (is_between 1 CONCURRENCY_MOST)) c.parallel
     && (passes_if_set is_priority c.priority
     && (passes_if_set (λ n. nat_le n THRESHOLD_SECONDS_MOST) c.threshold_s
@@ -65,7 +65,7 @@ is_pool_change_in_range c =
 -- every value that is named for a user is in its range
 abbrev pub is_user_change_in_range : UserChange → Bool
 is_user_change_in_range c =
-    passes_if_set (passes_if_set is_size) c.memory_cap && passes_if_set (passes_if_set (is_between 1 SPAN_MOST)) c.cap_ms
+    passes_if_set (passes_if_set is_size_in_range) c.memory_cap && passes_if_set (passes_if_set (is_between 1 SPAN_MOST)) c.cap_ms
 
 -- every value that a statement names is in its range
 abbrev pub is_statement_in_range : Statement → Bool

@@ -33,7 +33,7 @@ impl Name {
         if text.len() > NAME_MOST {
             return None;
         }
-        let bytes = folded(text);
+        let bytes = lowered(text);
         if is_name_text(&bytes[..text.len()]) {
             Some(Name { bytes })
         } else {
@@ -98,7 +98,7 @@ const RESERVED: [&str; 22] = [
 ];
 
 /// The text in lower case, with zeros behind it.
-fn folded(text: &[u8]) -> [u8; NAME_MOST]
+fn lowered(text: &[u8]) -> [u8; NAME_MOST]
     requires { length text.now ≤ NAME_MOST }
     ensures { result ≡ str_to_ascii_lowercase text.now ++ replicate (NAME_MOST - length text.now) 0 }
 {
