@@ -74,3 +74,21 @@ pub const FILE_MOST: usize = 67_108_864;
 
 /// The longest file of a spool, in bytes: 2^63 - 1.
 pub const SPOOL_FILE_MOST: u64 = 9_223_372_036_854_775_807;
+
+/// The greatest percentage.
+pub const PERCENT_MOST: u64 = 100;
+
+/// So many percent of a whole may be used before others wait.
+pub const USABLE_PERCENT: u64 = 95;
+
+/// Under AUTO, so many queries are planned at least.
+pub const PLANNED_LEAST: u32 = 4;
+
+/// Under AUTO, one query is planned for each so many bytes of the total: 2 GiB.
+pub const PLANNED_SHARE: u64 = 2_147_483_648;
+
+/// How often a query may be moved from one pool to another.
+pub const MOVES_MOST: u32 = 16;
+
+/// How many entries the journal holds beyond its room and those of accepted statements.
+pub const ENTRIES_BEYOND: usize = 1_408;
