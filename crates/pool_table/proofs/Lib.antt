@@ -2,5 +2,4 @@ pub mod RowsAfter
 pub mod ChainsAfter
 pub mod FirstRefusal
 pub mod Places
-pub mod Sizes
 pub mod SoundParts

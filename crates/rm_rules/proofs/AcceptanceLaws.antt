@@ -12,15 +12,16 @@ use Rattle.rm_base.specs.declared.rows.GrantRow.TheVariants.{PoolToUser, PoolToR
 use Rattle.rm_base.specs.declared.name.Name.{Name}
 use Rattle.rm_base.specs.declared.statement.PoolChange.{PoolChange}
 use Rattle.rm_base.specs.declared.statement.Statement.{Statement}
-use Rattle.rm_base.specs.declared.statement.Statement.TheVariants.{CreatePool, AlterPool}
+use Rattle.rm_base.specs.declared.statement.Statement.TheVariants.{CreatePool, AlterPool, DropPool, CreateUser, AlterUser, DropUser, CreateRole, AlterRole, DropRole, GrantUsage, RevokeUsage, GrantRole, RevokeRole}
 use Rattle.rm_base.specs.declared.refusal.Refusal.{Refusal}
 use Rattle.rm_base.specs.Name.{same_name, general}
 use Rattle.rm_base.specs.Definitions.{default_pool_row}
 use Rattle.rm_base.proofs.Names.{same_name-refl, same_name-eq}
-use Rattle.rm_rules.specs.Definitions.{pool_called, pool_row, user_called, role_called, total, reserved}
+use Rattle.rm_rules.specs.Definitions.{pool_called, pool_row, user_called, role_called, total, reserved, usable}
 use Rattle.rm_rules.specs.Sound.{IsSound, is_within_max, has_pool, chain_ends, is_grant_known, begins_with_general}
-use Rattle.rm_base.specs.Ranges.{passes_if_set, is_between, is_pool_change_in_range, is_pool_in_range}
-use Rattle.rm_rules.specs.Acceptance.{IsWellFormed, is_pool_statement, bytes_of, created_row, altered_row, with_row, with_pool, refused_if, first_refusal, total_out_of_range, name_taken, pool_missing, general_reserves, max_below_memory, general_too_small, target_missing, chain, cascade_loop, length_through, longest_through, chain_too_long, pools_full, changes_full, outcome_refusal, create_refusal, alter_refusal, unless_refused, accepted}
+use Rattle.rm_base.specs.Ranges.{passes_if_set, is_between, is_pool_change_in_range, is_pool_in_range, is_statement_in_range}
+use Rattle.rm_rules.specs.Refusals.{refused_if, first_refusal, unless_refused}
+use Rattle.rm_rules.specs.Acceptance.{is_judged, bytes_of, created_row, altered_row, with_row, with_pool, total_out_of_range, name_taken, pool_missing, general_reserves, max_below_memory, general_too_small, target_missing, chain, cascade_loop, length_through, longest_through, chain_too_long, pools_full, changes_full, outcome_refusal, create_refusal, alter_refusal, accepted}
 use Rattle.rm_rules.proofs.Taken.{and_left, and_right, and_both, all_found, found_passes, not_true}
 use Rattle.rm_rules.proofs.Known.{general-there}
 use Rattle.rm_rules.proofs.AcceptancePools.{all_with, called_with, there_with, distinct_with, length_with-there, length_with-most, first_with}
@@ -75,14 +76,14 @@ grant-known d row (RoleToUser r u) known = known
 
 -- the total after the statement
 total-turn : (d : Definitions) (row : PoolRow) (found : Option PoolRow) (b : Bool)
-    → unwrap_or ((unwrap_or (cond b (Some row) found) (default_pool_row general)).max) (95 * d.memory / 100)
-    ≡ cond b (unwrap_or row.max (95 * d.memory / 100)) (unwrap_or ((unwrap_or found (default_pool_row general)).max) (95 * d.memory / 100))
+    → unwrap_or ((unwrap_or (cond b (Some row) found) (default_pool_row general)).max) (usable d.memory)
+    ≡ cond b (unwrap_or row.max (usable d.memory)) (unwrap_or ((unwrap_or found (default_pool_row general)).max) (usable d.memory))
 total-turn d row found true = refl
 total-turn d row found false = refl
 
-pub total-with : (d : Definitions) (row : PoolRow) → total (with_pool d row) ≡ cond (same_name row.name general) (unwrap_or row.max (95 * d.memory / 100)) (total d)
+pub total-with : (d : Definitions) (row : PoolRow) → total (with_pool d row) ≡ cond (same_name row.name general) (unwrap_or row.max (usable d.memory)) (total d)
 total-with d row =
-    ap (λ o. unwrap_or ((unwrap_or o (default_pool_row general)).max) (95 * d.memory / 100)) (called_with row d.pools general)
+    ap (λ o. unwrap_or ((unwrap_or o (default_pool_row general)).max) (usable d.memory)) (called_with row d.pools general)
     ∙ total-turn d row (pool_called d.pools general) (same_name row.name general)
 
 -- what numbers 11, 13 and 15 rule out
@@ -222,14 +223,14 @@ apart-turn d name true e sound missing =
 apart-turn d name false e sound missing = refl
 
 -- the rows that well-formed statements leave are in range
-memory-fits : (d : Definitions) → IsSound d → d.memory ≤ MEMORY_MOST
-memory-fits d sound = leb-true d.memory MEMORY_MOST (and_right (nat_le MEMORY_LEAST d.memory) _ sound.memory)
+pub memory_fits : (d : Definitions) → IsSound d → d.memory ≤ MEMORY_MOST
+memory_fits d sound = leb-true d.memory MEMORY_MOST (and_right (nat_le MEMORY_LEAST d.memory) _ sound.memory)
 
 pub created-in_range : (d : Definitions) (name : Name) (c : PoolChange) → IsSound d → is_pool_change_in_range c ≡ true → is_pool_in_range (created_row d name c) ≡ true
-created-in_range d name c sound named = changed-in_range d (default_pool_row name) c (memory-fits d sound) sound.total_most named refl
+created-in_range d name c sound named = changed-in_range d (default_pool_row name) c (memory_fits d sound) sound.total_most named refl
 
 pub altered-in_range : (d : Definitions) (name : Name) (c : PoolChange) → IsSound d → is_pool_change_in_range c ≡ true → is_pool_in_range (altered_row d name c) ≡ true
-altered-in_range d name c sound named = changed-in_range d (pool_row d name) c (memory-fits d sound) sound.total_most named (pool_row_in_range d name sound)
+altered-in_range d name c sound named = changed-in_range d (pool_row d name) c (memory_fits d sound) sound.total_most named (pool_row_in_range d name sound)
 
 -- what a created pool's row is
 pub let_in-created : (d : Definitions) (name : Name) (c : PoolChange) → IsSound d → is_pool_change_in_range c ≡ true
@@ -241,7 +242,7 @@ let_in-created d name c sound named h =
     let full = first-none (pools_full d) _ outcome.1 in
     let changes = first-none (changes_full d) _ full.1 in
     let apart : same_name name general ≡ false = apart-turn d name (same_name name general) refl sound (not-refused (has_pool d name) _ taken.0) in
-    let same : total (with_pool d row) ≡ total d = total-with d row ∙ ap (λ b. cond b (unwrap_or row.max (95 * d.memory / 100)) (total d)) apart in
+    let same : total (with_pool d row) ≡ total d = total-with d row ∙ ap (λ b. cond b (unwrap_or row.max (usable d.memory)) (total d)) apart in
     let room : length d.pools < POOLS_MOST = not_above POOLS_MOST (length d.pools) (not-refused (nat_le POOLS_MOST (length d.pools)) _ full.0) in
     let least = sound.total_least in
     let most = sound.total_most in
@@ -285,19 +286,19 @@ in_range-turn d t h =
     }
 
 max-turn : {A : Type 0} (d : Definitions) (f : Option A → Option ℕ) (o : Option (Option A)) (had : Option ℕ) (new : ℕ)
-    → new ≡ unwrap_or (unwrap_or (option_map f o) had) (95 * d.memory / 100) → IsInRange d (unwrap_or had (95 * d.memory / 100))
+    → new ≡ unwrap_or (unwrap_or (option_map f o) had) (usable d.memory) → IsInRange d (unwrap_or had (usable d.memory))
     → (is_some o && not (is_between TOTAL_LEAST d.memory new)) ≡ false → IsInRange d new
 max-turn d f None had new e before h = subst (λ t. IsInRange d t) (sym e) before
 max-turn d f (Some x) had new e before h = in_range-turn d new h
 
 total-turns : (d : Definitions) (name : Name) (c : PoolChange) (b : Bool) → same_name name general ≡ b → IsSound d
-    → total (with_pool d (altered_row d name c)) ≡ cond b (unwrap_or (altered_row d name c).max (95 * d.memory / 100)) (total d)
+    → total (with_pool d (altered_row d name c)) ≡ cond b (unwrap_or (altered_row d name c).max (usable d.memory)) (total d)
     → (b && (is_some c.max && not (is_between TOTAL_LEAST d.memory (total (with_pool d (altered_row d name c)))))) ≡ false
     → IsInRange d (total (with_pool d (altered_row d name c)))
 total-turns d name c true is sound e h =
     let is_general : name ≡ general = same_name-eq name general is in
-    let before : IsInRange d (unwrap_or (pool_row d name).max (95 * d.memory / 100)) =
-    subst (λ n. IsInRange d (unwrap_or (pool_row d n).max (95 * d.memory / 100))) (sym is_general) (record { least = sound.total_least; most = sound.total_most }) in
+    let before : IsInRange d (unwrap_or (pool_row d name).max (usable d.memory)) =
+    subst (λ n. IsInRange d (unwrap_or (pool_row d n).max (usable d.memory))) (sym is_general) (record { least = sound.total_least; most = sound.total_most }) in
     max-turn d _ c.max (pool_row d name).max (total (with_pool d (altered_row d name c))) e before h
 total-turns d name c false is sound e h =
     subst (λ t. IsInRange d t) (sym e) (record { least = sound.total_least; most = sound.total_most })
@@ -306,7 +307,7 @@ total-altered : (d : Definitions) (name : Name) (c : PoolChange) → IsSound d �
     → IsInRange d (total (with_pool d (altered_row d name c)))
 total-altered d name c sound h =
     total-turns d name c (same_name name general) refl sound
-    (total-with d (altered_row d name c) ∙ ap (λ n. cond (same_name n general) (unwrap_or (altered_row d name c).max (95 * d.memory / 100)) (total d)) (pool_row-name d name))
+    (total-with d (altered_row d name c) ∙ ap (λ n. cond (same_name n general) (unwrap_or (altered_row d name c).max (usable d.memory)) (total d)) (pool_row-name d name))
     (not-refused (same_name name general && (is_some c.max && not (is_between TOTAL_LEAST d.memory (total (with_pool d (altered_row d name c)))))) _ h)
 
 pub let_in-altered : (d : Definitions) (name : Name) (c : PoolChange) → IsSound d → is_pool_change_in_range c ≡ true
@@ -333,14 +334,14 @@ let_in-altered d name c sound named h =
     }
 
 -- what an accepted statement leaves, of a pool's row
-pub unless-ok : (o : Option Refusal) (next new : Definitions) → unless_refused o next ≡ Ok new → (o ≡ None) × (next ≡ new)
+pub unless-ok : {A : Type 0} (o : Option Refusal) (next new : A) → unless_refused o next ≡ Ok new → (o ≡ None) × (next ≡ new)
 unless-ok None next new h = (refl, cc)
 unless-ok (Some r) next new h = absurd (cc)
 
 let_in-sound : (d : Definitions) (row : PoolRow) (new : Definitions) → IsSound d → IsLetIn d row → with_pool d row ≡ new → IsSound new
 let_in-sound d row new sound let_in e = subst IsSound e (sound-with d row sound let_in)
 
-pub accepted-sound : (d : Definitions) (statement : Statement) (new : Definitions) → IsSound d → IsWellFormed statement → is_pool_statement statement ≡ true
+pub accepted-sound : (d : Definitions) (statement : Statement) (new : Definitions) → IsSound d → is_statement_in_range statement ≡ true → is_judged statement ≡ true
     → accepted d statement ≡ Ok new → IsSound new
 accepted-sound d (CreatePool name c) new sound formed is h =
     let parts = unless-ok (create_refusal d name (created_row d name c)) (with_pool d (created_row d name c)) new h in
@@ -348,7 +349,17 @@ accepted-sound d (CreatePool name c) new sound formed is h =
 accepted-sound d (AlterPool name c) new sound formed is h =
     let parts = unless-ok (alter_refusal d name c (altered_row d name c)) (with_pool d (altered_row d name c)) new h in
     let_in-sound d (altered_row d name c) new sound (let_in-altered d name c sound formed parts.0) parts.1
-accepted-sound d _ new sound formed is h = absurd (false≢true is)
+accepted-sound d (DropPool name) new sound formed is h = absurd (false≢true is)
+accepted-sound d (CreateUser name change) new sound formed is h = absurd (false≢true is)
+accepted-sound d (AlterUser name change) new sound formed is h = absurd (false≢true is)
+accepted-sound d (DropUser name) new sound formed is h = absurd (false≢true is)
+accepted-sound d (CreateRole name) new sound formed is h = absurd (false≢true is)
+accepted-sound d (AlterRole name pool) new sound formed is h = absurd (false≢true is)
+accepted-sound d (DropRole name) new sound formed is h = absurd (false≢true is)
+accepted-sound d (GrantUsage pool name) new sound formed is h = absurd (false≢true is)
+accepted-sound d (RevokeUsage pool name) new sound formed is h = absurd (false≢true is)
+accepted-sound d (GrantRole role user) new sound formed is h = absurd (false≢true is)
+accepted-sound d (RevokeRole role user) new sound formed is h = absurd (false≢true is)
 
 -- it is counted, and leaves all but the pools
 pub record IsCounted (d new : Definitions) : Type 0 where
@@ -359,12 +370,22 @@ pub record IsCounted (d new : Definitions) : Type 0 where
 with-counted : (d : Definitions) (row : PoolRow) (new : Definitions) → with_pool d row ≡ new → IsCounted d new
 with-counted d row new e = subst (λ x. IsCounted d x) e (record { changes = refl; memory = refl; cores = refl })
 
-pub accepted-counted : (d : Definitions) (statement : Statement) (new : Definitions) → is_pool_statement statement ≡ true → accepted d statement ≡ Ok new → IsCounted d new
+pub accepted-counted : (d : Definitions) (statement : Statement) (new : Definitions) → is_judged statement ≡ true → accepted d statement ≡ Ok new → IsCounted d new
 accepted-counted d (CreatePool name c) new is h =
     with-counted d (created_row d name c) new (unless-ok (create_refusal d name (created_row d name c)) (with_pool d (created_row d name c)) new h).1
 accepted-counted d (AlterPool name c) new is h =
     with-counted d (altered_row d name c) new (unless-ok (alter_refusal d name c (altered_row d name c)) (with_pool d (altered_row d name c)) new h).1
-accepted-counted d _ new is h = absurd (false≢true is)
+accepted-counted d (DropPool name) new is h = absurd (false≢true is)
+accepted-counted d (CreateUser name change) new is h = absurd (false≢true is)
+accepted-counted d (AlterUser name change) new is h = absurd (false≢true is)
+accepted-counted d (DropUser name) new is h = absurd (false≢true is)
+accepted-counted d (CreateRole name) new is h = absurd (false≢true is)
+accepted-counted d (AlterRole name pool) new is h = absurd (false≢true is)
+accepted-counted d (DropRole name) new is h = absurd (false≢true is)
+accepted-counted d (GrantUsage pool name) new is h = absurd (false≢true is)
+accepted-counted d (RevokeUsage pool name) new is h = absurd (false≢true is)
+accepted-counted d (GrantRole role user) new is h = absurd (false≢true is)
+accepted-counted d (RevokeRole role user) new is h = absurd (false≢true is)
 
 -- what is accepted of a pool statement is let in, and is the definitions with the row
 ok-none : (o : Option Refusal) (next : Definitions) → is_ok (unless_refused o next) ≡ true → o ≡ None
@@ -375,16 +396,16 @@ ok-next : (o : Option Refusal) (next : Definitions) → is_ok (unless_refused o 
 ok-next None next h = refl
 ok-next (Some r) next h = absurd (false≢true h)
 
-pub created-let_in : (d : Definitions) (statement : Statement) (name : Name) (c : PoolChange) → statement ≡ CreatePool name c → IsSound d → IsWellFormed statement
+pub created-let_in : (d : Definitions) (statement : Statement) (name : Name) (c : PoolChange) → statement ≡ CreatePool name c → IsSound d → is_statement_in_range statement ≡ true
     → is_ok (accepted d statement) ≡ true → IsLetIn d (created_row d name c)
 created-let_in d statement name c e sound =
-    subst (λ s. IsWellFormed s → is_ok (accepted d s) ≡ true → IsLetIn d (created_row d name c)) (sym e)
+    subst (λ s. is_statement_in_range s ≡ true → is_ok (accepted d s) ≡ true → IsLetIn d (created_row d name c)) (sym e)
     (λ formed ok. let_in-created d name c sound formed (ok-none (create_refusal d name (created_row d name c)) (with_pool d (created_row d name c)) ok))
 
-pub altered-let_in : (d : Definitions) (statement : Statement) (name : Name) (c : PoolChange) → statement ≡ AlterPool name c → IsSound d → IsWellFormed statement
+pub altered-let_in : (d : Definitions) (statement : Statement) (name : Name) (c : PoolChange) → statement ≡ AlterPool name c → IsSound d → is_statement_in_range statement ≡ true
     → is_ok (accepted d statement) ≡ true → IsLetIn d (altered_row d name c)
 altered-let_in d statement name c e sound =
-    subst (λ s. IsWellFormed s → is_ok (accepted d s) ≡ true → IsLetIn d (altered_row d name c)) (sym e)
+    subst (λ s. is_statement_in_range s ≡ true → is_ok (accepted d s) ≡ true → IsLetIn d (altered_row d name c)) (sym e)
     (λ formed ok. let_in-altered d name c sound formed (ok-none (alter_refusal d name c (altered_row d name c)) (with_pool d (altered_row d name c)) ok))
 
 pub created-next : (d : Definitions) (statement : Statement) (name : Name) (c : PoolChange) → statement ≡ CreatePool name c

@@ -1,7 +1,7 @@
 -- Which statements are accepted, and what an accepted statement leaves.
 use Rattle.std.specs.Prelude.{◌≡◌, ℕ, zero, suc, ◌+◌, ◌-◌, ◌*◌, ◌/◌, Bool, true, false, ◌&&◌, nat_lt, nat_le, not, List, [], ◌∷◌, Option, Some, None, Result, Ok, Err, is_some, unwrap_or, option_map, option_and_then, length, max, if◌then◌else◌}
 use Rattle.std.specs.List.{list_any}
-use Rattle.rm_base.specs.declared.limits.TheConstants.{TOTAL_LEAST, POOLS_MOST, CHANGES_MOST, CHAIN_MOST}
+use Rattle.rm_base.specs.declared.limits.TheConstants.{TOTAL_LEAST, GENERAL_PART, POOLS_MOST, CHANGES_MOST, CHAIN_MOST}
 use Rattle.rm_base.specs.declared.definitions.Definitions.{Definitions}
 use Rattle.rm_base.specs.declared.rows.PoolRow.{PoolRow}
 use Rattle.rm_base.specs.declared.name.Name.{Name}
@@ -9,31 +9,39 @@ use Rattle.rm_base.specs.declared.statement.Size.{Size}
 use Rattle.rm_base.specs.declared.statement.Size.TheVariants.{Bytes, Percent}
 use Rattle.rm_base.specs.declared.statement.PoolChange.{PoolChange}
 use Rattle.rm_base.specs.declared.statement.Statement.{Statement}
-use Rattle.rm_base.specs.declared.statement.Statement.TheVariants.{CreatePool, AlterPool}
+use Rattle.rm_base.specs.declared.statement.Statement.TheVariants.{CreatePool, AlterPool, DropPool, CreateUser, AlterUser, DropUser, CreateRole, AlterRole, DropRole, GrantUsage, RevokeUsage, GrantRole, RevokeRole}
+use Rattle.rm_base.specs.declared.statement.UserChange.{UserChange}
 use Rattle.rm_base.specs.declared.refusal.Parameter.TheVariants as parameter
 use Rattle.rm_base.specs.declared.refusal.TableKind.TheVariants as table
 use Rattle.rm_base.specs.declared.refusal.Refusal.{Refusal}
 use Rattle.rm_base.specs.declared.refusal.Refusal.TheVariants as refusal
 use Rattle.rm_base.specs.Name.{same_name, general}
 use Rattle.rm_base.specs.Definitions.{default_pool_row}
-use Rattle.rm_rules.specs.Definitions.{pool_called, pool_row, total, reserved}
+use Rattle.rm_rules.specs.Refusals.{refused_if, first_refusal, unless_refused}
+use Rattle.rm_rules.specs.Definitions.{pool_called, pool_row, total, reserved, percent_of}
 use Rattle.rm_rules.specs.Sound.{has_pool}
-use Rattle.rm_base.specs.Ranges.{is_between, is_statement_in_range}
+use Rattle.rm_base.specs.Ranges.{is_between}
 
--- every value that the statement names is in its range
-abbrev pub IsWellFormed : Statement → Type 0
-IsWellFormed statement = is_statement_in_range statement ≡ true
-
--- the statements that are judged: CREATE and ALTER RESOURCE POOL
-abbrev pub is_pool_statement : Statement → Bool
-is_pool_statement (CreatePool name change) = true
-is_pool_statement (AlterPool name change) = true
-is_pool_statement _ = false
+-- the statements that are judged so far: CREATE and ALTER RESOURCE POOL
+abbrev pub is_judged : Statement → Bool
+is_judged (CreatePool name change) = true
+is_judged (AlterPool name change) = true
+is_judged (DropPool name) = false
+is_judged (CreateUser name change) = false
+is_judged (AlterUser name change) = false
+is_judged (DropUser name) = false
+is_judged (CreateRole name) = false
+is_judged (AlterRole name pool) = false
+is_judged (DropRole name) = false
+is_judged (GrantUsage pool name) = false
+is_judged (RevokeUsage pool name) = false
+is_judged (GrantRole role user) = false
+is_judged (RevokeRole role user) = false
 
 -- a size in bytes: a percentage is taken of this whole, and rounded down
 abbrev pub bytes_of : ℕ → Size → ℕ
 bytes_of whole (Bytes n) = n
-bytes_of whole (Percent n) = n * whole / 100
+bytes_of whole (Percent n) = percent_of whole n
 
 -- what a percentage of a pool's MAXMEMORYSIZE is taken of: for GENERAL the machine's memory, else the total
 abbrev pub max_whole : Definitions → Name → ℕ
@@ -73,15 +81,6 @@ with_row row (r ∷ rs) = if same_name r.name row.name then row ∷ rs else r �
 abbrev pub with_pool : Definitions → PoolRow → Definitions
 with_pool d row = record d { pools = with_row row d.pools; changes = d.changes + 1 }
 
-abbrev pub refused_if : Bool → Refusal → Option Refusal
-refused_if holds r = if holds then Some r else None
-
--- the first refusal of these, or none
-abbrev pub first_refusal : List (Option Refusal) → Option Refusal
-first_refusal [] = None
-first_refusal (None ∷ more) = first_refusal more
-first_refusal (Some r ∷ more) = Some r
-
 -- 5: MAXMEMORYSIZE of GENERAL gives a total below the least one, or above the machine's memory
 abbrev pub total_out_of_range : Definitions → Name → PoolChange → Option Refusal
 total_out_of_range new name change =
@@ -108,7 +107,7 @@ max_below_memory (Some most) memory = refused_if (nat_lt most memory) (refusal.M
 abbrev pub general_too_small : Definitions → Option Refusal
 general_too_small new =
     let left = total new - reserved new in
-    refused_if (nat_lt (4 * left) (total new)) (refusal.GeneralTooSmall left ((total new + 3) / 4))
+    refused_if (nat_lt (GENERAL_PART * left) (total new)) (refusal.GeneralTooSmall left ((total new + (GENERAL_PART - 1)) / GENERAL_PART))
 
 -- 13: CASCADE TO, where it is set, names no pool
 abbrev pub target_missing : Definitions → Option Name → Option Refusal
@@ -183,14 +182,26 @@ alter_refusal d name change row = first_refusal (
     ∷ changes_full d
     ∷ [])
 
--- the new definitions, where nothing refuses them
-abbrev pub unless_refused : Option Refusal → Definitions → Result Definitions Refusal
-unless_refused None new = Ok new
-unless_refused (Some r) new = Err r
+-- the definitions that CREATE and ALTER RESOURCE POOL lead to, or their first refusal
+abbrev pub creating : Definitions → Name → PoolChange → Result Definitions Refusal
+creating d name change = let row = created_row d name change in unless_refused (create_refusal d name row) (with_pool d row)
 
--- The definitions that a statement leads to, or the first refusal in the order of the numbers. What is no pool
--- statement is not judged yet: it leaves all as it was, and who cites `accepted` excludes it by `is_pool_statement`.
+abbrev pub altering : Definitions → Name → PoolChange → Result Definitions Refusal
+altering d name change = let row = altered_row d name change in unless_refused (alter_refusal d name change row) (with_pool d row)
+
+-- The definitions that a statement leads to, or the first refusal in the order of the numbers. A statement that is not
+-- judged yet leaves all as it was, and who cites `accepted` excludes it by `is_judged`.
 abbrev pub accepted : Definitions → Statement → Result Definitions Refusal
-accepted d (CreatePool name change) = let row = created_row d name change in unless_refused (create_refusal d name row) (with_pool d row)
-accepted d (AlterPool name change) = let row = altered_row d name change in unless_refused (alter_refusal d name change row) (with_pool d row)
-accepted d _ = Ok d
+accepted d (CreatePool name change) = creating d name change
+accepted d (AlterPool name change) = altering d name change
+accepted d (DropPool name) = Ok d
+accepted d (CreateUser name change) = Ok d
+accepted d (AlterUser name change) = Ok d
+accepted d (DropUser name) = Ok d
+accepted d (CreateRole name) = Ok d
+accepted d (AlterRole name pool) = Ok d
+accepted d (DropRole name) = Ok d
+accepted d (GrantUsage pool name) = Ok d
+accepted d (RevokeUsage pool name) = Ok d
+accepted d (GrantRole role user) = Ok d
+accepted d (RevokeRole role user) = Ok d

@@ -7,7 +7,7 @@ use Rattle.rm_rules.specs.declared.state.Phase.TheVariants as phase
 use Rattle.rm_rules.specs.declared.state.Waiter.{Waiter}
 use Rattle.rm_rules.specs.Definitions.{pool_row}
 use Rattle.rm_rules.specs.State.{State, with_phase, with_end, without_waiter}
-use Rattle.rm_rules.specs.Admission.{repeated}
+use Rattle.rm_rules.specs.Repeated.{repeated}
 
 -- the state in which this waiting query ended so
 abbrev pub ended_as : End → State → Waiter → State

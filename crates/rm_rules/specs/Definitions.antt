@@ -1,6 +1,7 @@
 -- What the definitions say: the total, the pools, the users, USAGE and default pools.
-use Rattle.std.specs.Prelude.{ℕ, ◌*◌, ◌/◌, ◌^◌, Bool, false, ◌&&◌, ◌||◌, List, [], ◌∷◌, Option, Some, None, unwrap_or, option_and_then, find, sum_by, min, max, if◌then◌else◌}
+use Rattle.std.specs.Prelude.{ℕ, ◌*◌, ◌/◌, Bool, false, ◌&&◌, ◌||◌, List, [], ◌∷◌, Option, Some, None, unwrap_or, option_and_then, find, sum_by, min, max, if◌then◌else◌}
 use Rattle.std.specs.List.{list_any}
+use Rattle.rm_base.specs.declared.limits.TheConstants.{USABLE_PERCENT, PERCENT_MOST, PLANNED_LEAST, PLANNED_SHARE}
 use Rattle.rm_base.specs.declared.definitions.Definitions.{Definitions}
 use Rattle.rm_base.specs.declared.rows.PoolRow.{PoolRow}
 use Rattle.rm_base.specs.declared.rows.UserRow.{UserRow}
@@ -30,9 +31,21 @@ abbrev pub user_pools : List PoolRow → List PoolRow
 user_pools [] = []
 user_pools (general_row ∷ pools) = pools
 
+-- the pool's MEMORYSIZE
+abbrev pub memory_of : Definitions → Name → ℕ
+memory_of d name = (pool_row d name).memory
+
+-- so many percent of a whole, rounded down
+abbrev pub percent_of : ℕ → ℕ → ℕ
+percent_of whole percent = percent * whole / PERCENT_MOST
+
+-- what of a whole may be used before others wait: 95 percent
+abbrev pub usable : ℕ → ℕ
+usable whole = percent_of whole USABLE_PERCENT
+
 -- T: GENERAL's MAXMEMORYSIZE, or 95 percent of the machine's memory
 abbrev pub total : Definitions → ℕ
-total d = unwrap_or ((pool_row d general).max) (95 * d.memory / 100)
+total d = unwrap_or ((pool_row d general).max) (usable d.memory)
 
 -- S: the MEMORYSIZE of all pools, of which GENERAL has none
 abbrev pub reserved : Definitions → ℕ
@@ -40,7 +53,7 @@ reserved d = sum_by (λ r. r.memory) d.pools
 
 -- PLANNEDCONCURRENCY in force; AUTO is by the cores and the total
 abbrev pub planned : Definitions → PoolRow → ℕ
-planned d r = unwrap_or r.planned (max 4 (min d.cores (total d / 2 ^ 31)))
+planned d r = unwrap_or r.planned (max PLANNED_LEAST (min d.cores (total d / PLANNED_SHARE)))
 
 -- a grant makes the user a member of the role
 abbrev pub is_member_by : Name → Name → GrantRow → Bool

@@ -1,62 +1,102 @@
--- What every state of the machine keeps.
-use Rattle.std.specs.Prelude.{◌≡◌, ℕ, ◌+◌, ◌-◌, ◌*◌, ◌<◌, ◌≤◌, Bool, true, ◌==◌, length, sum, sum_by, count_by, if◌then◌else◌}
+-- What every state of the machine keeps. Each fact is over what it reads, so what an event leaves alone stays as it was.
+use Rattle.std.specs.Prelude.{◌≡◌, ℕ, ◌+◌, ◌<◌, ◌≤◌, nat_le, Bool, true, ◌==◌, List, length, sum_by, count_by, if◌then◌else◌}
 use Rattle.std.specs.List.{list_all}
-use Rattle.rm_base.specs.declared.limits.TheConstants.{SESSIONS_MOST, ENTRIES_A_QUERY, ENTRIES_A_SESSION}
-use Rattle.rm_rules.specs.Definitions.{total, user_pools}
-use Rattle.rm_rules.specs.State.{State, phase_of, is_waiting, is_running, live_queries, active_queries, counted_entries}
-use Rattle.rm_rules.specs.Accounting.{lent, free}
-use Rattle.rm_rules.specs.Change.{Answer, is_defining}
-use Rattle.rm_rules.specs.Sound.{IsSound, has_pool}
+use Rattle.rm_base.specs.declared.definitions.Definitions.{Definitions}
+use Rattle.rm_base.specs.declared.entry.EndCounts.{EndCounts}
+use Rattle.rm_base.specs.declared.entry.Entry.{Entry}
+use Rattle.rm_base.specs.declared.limits.TheConstants.{SESSIONS_MOST, ENTRIES_BEYOND}
 use Rattle.rm_base.specs.Ranges.{passes_if_set}
+use Rattle.rm_rules.specs.declared.answer.Answer.{Answer}
+use Rattle.rm_rules.specs.declared.state.Session.{Session}
+use Rattle.rm_rules.specs.declared.state.Waiter.{Waiter}
+use Rattle.rm_rules.specs.declared.state.Runner.{Runner}
+use Rattle.rm_rules.specs.Definitions.{total, user_pools}
+use Rattle.rm_rules.specs.State.{State, phase_of, is_waiting, is_running, active_queries, counted_entries}
+use Rattle.rm_rules.specs.Holdings.{Holdings, holdings_of}
+use Rattle.rm_rules.specs.Accounting.{taken_up, free, granted}
+use Rattle.rm_rules.specs.Owed.{entries_owed}
+use Rattle.rm_rules.specs.Answers.{is_defining}
+use Rattle.rm_rules.specs.Sound.{IsSound, has_pool}
 
--- The bytes, also between an event's change and its settling: each pool has a size, what is reserved and lent is within
--- the memory in force, and every pool that is named is there.
-pub record IsHeld (s : State) : Type 0 where
-  pub sizes : length s.actual ≡ length (user_pools s.definitions.pools)
-  pub counts : length s.counters ≡ length s.definitions.pools
-  pub within : sum s.actual + lent s ≤ s.in_force
-  pub in_force_most : s.in_force ≤ s.definitions.memory
-  pub granted : sum_by (λ r. r.grant) s.running ≤ s.in_force
-  pub running_known : list_all (λ r. has_pool s.definitions r.pool) s.running ≡ true
-  pub waiting_known : list_all (λ w. has_pool s.definitions w.pool) s.waiting ≡ true
-  pub chosen_known : list_all (λ x. passes_if_set (has_pool s.definitions) x.pool) s.sessions ≡ true
+-- each pool has a size and its counts
+pub record AreSized (d : Definitions) (actual : List ℕ) (counters : List EndCounts) : Type 0 where
+  pub sizes : length actual ≡ length (user_pools d.pools)
+  pub counts : length counters ≡ length d.pools
 
--- and once it has settled: the total is in force, and more than it only while nothing is free
-pub record IsCovered (s : State) : Type 0 where
-  pub held : IsHeld s
-  pub in_force_least : total s.definitions ≤ s.in_force
-  pub full_above_total : total s.definitions < s.in_force → free s ≡ 0
+-- every pool that is named is there
+pub record AreThere (d : Definitions) (sessions : List Session) (waiting : List Waiter) (running : List Runner) : Type 0 where
+  pub runs : list_all (λ r. has_pool d r.pool) running ≡ true
+  pub waits : list_all (λ w. has_pool d w.pool) waiting ≡ true
+  pub chosen : list_all (λ x. passes_if_set (has_pool d) x.pool) sessions ≡ true
+
+-- what is reserved and lent, and what is granted, is within the memory in force, and that within the machine's
+pub record AreHeld (d : Definitions) (h : Holdings) : Type 0 where
+  pub within : taken_up h ≤ h.in_force
+  pub granted : granted h ≤ h.in_force
+  pub in_force_most : h.in_force ≤ d.memory
+
+-- the total is in force, and more than it only while nothing is free
+pub record AreCovered (d : Definitions) (h : Holdings) : Type 0 where
+  pub held : AreHeld d h
+  pub in_force_least : total d ≤ h.in_force
+  pub full_above_total : total d < h.in_force → free h ≡ 0
 
 abbrev pub one_if : Bool → ℕ
 one_if b = if b then 1 else 0
 
--- the queries: each session has one at most, which waits or runs as the session's phase says
-pub record AreInPhase (s : State) : Type 0 where
-  pub waits : (n : ℕ) → count_by (λ w. w.session == n) s.waiting ≡ one_if (is_waiting (phase_of s.sessions n))
-  pub runs : (n : ℕ) → count_by (λ r. r.session == n) s.running ≡ one_if (is_running (phase_of s.sessions n))
-  pub active : length s.running + length s.waiting ≡ active_queries s.sessions
-  pub few : length s.sessions ≤ SESSIONS_MOST
+-- each session has one query at most, which waits or runs as the session's phase says
+pub record AreInPhase (sessions : List Session) (waiting : List Waiter) (running : List Runner) : Type 0 where
+  pub waits : (n : ℕ) → count_by (λ w. w.session == n) waiting ≡ one_if (is_waiting (phase_of sessions n))
+  pub runs : (n : ℕ) → count_by (λ r. r.session == n) running ≡ one_if (is_running (phase_of sessions n))
+  pub active : length running + length waiting ≡ active_queries sessions
 
--- the numbers of queries: no two have one, and none has one that was not given yet
-pub record AreNumbered (s : State) : Type 0 where
-  pub once : (n : ℕ) → count_by (λ w. w.query == n) s.waiting + count_by (λ r. r.query == n) s.running ≤ 1
-  pub given : (n : ℕ) → s.last_query < n → count_by (λ w. w.query == n) s.waiting + count_by (λ r. r.query == n) s.running ≡ 0
+-- no two sessions have one number, none has one that was not given yet, and no more are open than may be
+pub record AreOpened (last : ℕ) (sessions : List Session) : Type 0 where
+  pub once : (n : ℕ) → count_by (λ x. x.number == n) sessions ≤ 1
+  pub given : list_all (λ x. nat_le x.number last) sessions ≡ true
+  pub few : length sessions ≤ SESSIONS_MOST
 
--- The journal has room for so many entries, and for those that live queries and open sessions may still make; a query
--- that has ended in its queue may have made one with that. Only accepted statements come on top, with so many more of
--- them accepted, and the numbers last given are within its length.
-pub record HasRoom (entries statements : ℕ) (s : State) : Type 0 where
-  pub kept : counted_entries s.journal + entries + (ENTRIES_A_QUERY - 1) * live_queries s.sessions + active_queries s.sessions + ENTRIES_A_SESSION * length s.sessions ≤ s.room
-  pub defined : length s.journal + statements ≤ counted_entries s.journal + s.definitions.changes
-  pub sessions : s.last_session ≤ counted_entries s.journal + entries
-  pub queries : s.last_query ≤ counted_entries s.journal + entries
+-- no two queries have one number, and none has one that was not given yet
+pub record AreNumbered (last : ℕ) (waiting : List Waiter) (running : List Runner) : Type 0 where
+  pub once : (n : ℕ) → count_by (λ w. w.query == n) waiting + count_by (λ r. r.query == n) running ≤ 1
+  pub given : (n : ℕ) → last < n → count_by (λ w. w.query == n) waiting + count_by (λ r. r.query == n) running ≡ 0
 
-pub record IsHealthy (s : State) : Type 0 where
+-- The journal has room for so many entries that count, and for those that are owed. Only accepted statements come on
+-- top, with so many more of them accepted, and the numbers last given are within the entries that count.
+pub record HasRoom (entries statements owed : ℕ) (journal : List Entry) (room changes last_session last_query : ℕ) : Type 0 where
+  pub kept : counted_entries journal + entries + owed ≤ room + ENTRIES_BEYOND
+  pub defined : length journal + statements ≤ counted_entries journal + changes
+  pub sessions : last_session ≤ counted_entries journal + entries
+  pub queries : last_query ≤ counted_entries journal + entries
+
+abbrev pub RoomOf : ℕ → ℕ → State → Type 0
+RoomOf entries statements s = HasRoom entries statements (entries_owed s) s.journal s.room s.definitions.changes s.last_session s.last_query
+
+-- Before a state settles, and once it has settled, with so many entries still to be made of those that count and of
+-- those of statements. Each event keeps the first facts; that the bytes are covered comes with the shuffle.
+pub record IsUnsettledWith (entries statements : ℕ) (s : State) : Type 0 where
   pub sound : IsSound s.definitions
-  pub covered : IsCovered s
-  pub in_phase : AreInPhase s
-  pub numbered : AreNumbered s
-  pub room : HasRoom 0 0 s
+  pub sized : AreSized s.definitions s.actual s.counters
+  pub there : AreThere s.definitions s.sessions s.waiting s.running
+  pub held : AreHeld s.definitions (holdings_of s)
+  pub in_phase : AreInPhase s.sessions s.waiting s.running
+  pub opened : AreOpened s.last_session s.sessions
+  pub numbered : AreNumbered s.last_query s.waiting s.running
+  pub room : RoomOf entries statements s
+
+pub record IsHealthyWith (entries statements : ℕ) (s : State) : Type 0 where
+  pub sound : IsSound s.definitions
+  pub sized : AreSized s.definitions s.actual s.counters
+  pub there : AreThere s.definitions s.sessions s.waiting s.running
+  pub covered : AreCovered s.definitions (holdings_of s)
+  pub in_phase : AreInPhase s.sessions s.waiting s.running
+  pub opened : AreOpened s.last_session s.sessions
+  pub numbered : AreNumbered s.last_query s.waiting s.running
+  pub room : RoomOf entries statements s
+
+-- after every event
+abbrev pub IsHealthy : State → Type 0
+IsHealthy s = IsHealthyWith 0 0 s
 
 -- whether an event with this answer makes an entry that counts against the room, or one of an accepted statement
 abbrev pub counted_for : Answer → ℕ
@@ -66,9 +106,5 @@ abbrev pub defining_for : Answer → ℕ
 defining_for answer = if is_defining answer then 1 else 0
 
 -- between the change of an event with this answer and its settling
-pub record IsUnsettled (answer : Answer) (s : State) : Type 0 where
-  pub sound : IsSound s.definitions
-  pub held : IsHeld s
-  pub in_phase : AreInPhase s
-  pub numbered : AreNumbered s
-  pub room : HasRoom (counted_for answer) (defining_for answer) s
+abbrev pub IsUnsettled : Answer → State → Type 0
+IsUnsettled answer s = IsUnsettledWith (counted_for answer) (defining_for answer) s

@@ -5,10 +5,11 @@ use Rattle.rm_base.specs.declared.reply.End.{End}
 use Rattle.rm_base.specs.declared.reply.End.TheVariants.{TooLarge}
 use Rattle.rm_rules.specs.declared.state.Waiter.{Waiter}
 use Rattle.rm_rules.specs.Definitions.{pool_row}
-use Rattle.rm_rules.specs.Budget.{is_too_large, least_cap}
+use Rattle.rm_rules.specs.Ask.{is_too_large, least_cap}
 use Rattle.rm_rules.specs.State.{State}
-use Rattle.rm_rules.specs.Admission.{repeated, admission}
-use Rattle.rm_rules.specs.Shuffle.{shuffled}
+use Rattle.rm_rules.specs.Repeated.{repeated}
+use Rattle.rm_rules.specs.Admission.{admission}
+use Rattle.rm_rules.specs.Shuffle.{shuffled_state}
 use Rattle.rm_rules.specs.Deadlines.{ended_as, first_nowait, timed_out}
 
 -- the first waiting query whose floor is above its least cap, as the definitions are now
@@ -31,4 +32,4 @@ abbrev pub without_nowait : State → State
 without_nowait s = repeated first_nowait timed_out (length s.waiting) s
 
 abbrev pub settled : State → State
-settled s = admission (without_nowait (admission (shuffled (without_too_large s))))
+settled s = admission (without_nowait (admission (shuffled_state (without_too_large s))))

@@ -10,7 +10,7 @@ use Rattle.rm_base.specs.Name.{same_name}
 use Rattle.rm_base.specs.declared.reply.End.{End}
 use Rattle.rm_base.specs.declared.reply.End.TheVariants as end
 use Rattle.rm_base.specs.declared.reply.Reply.{Reply}
-use Rattle.rm_base.specs.declared.reply.Reply.TheVariants.{Defined}
+use Rattle.rm_base.specs.declared.reply.Reply.TheVariants as reply
 use Rattle.rm_rules.specs.declared.state.Phase.{Phase}
 use Rattle.rm_rules.specs.declared.state.Phase.TheVariants as phase
 use Rattle.rm_rules.specs.declared.state.Session.{Session}
@@ -37,8 +37,8 @@ pub record State : Type 0 where
   pub room : ℕ
 
 -- no query of a pool has ended in its queue
-abbrev pub no_ends : EndCounts
-no_ends = record { timedout = 0; toolarge = 0; cancelled = 0 }
+abbrev pub none_ended : EndCounts
+none_ended = record { timedout = 0; toolarge = 0; cancelled = 0 }
 
 -- the state at the start: the total is in force, each pool has its MEMORYSIZE, and nobody is there
 abbrev pub start : Definitions → ℕ → State
@@ -50,7 +50,7 @@ start d room = record {
   running = [];
   waiting = [];
   clock = 0;
-  counters = map (λ _. no_ends) d.pools;
+  counters = map (λ _. none_ended) d.pools;
   moves = [];
   last_session = 0;
   last_query = 0;
@@ -155,9 +155,23 @@ live_queries sessions = count_by (λ x. not (is_idle x.phase)) sessions
 abbrev pub active_queries : List Session → ℕ
 active_queries sessions = count_by (λ x. is_active x.phase) sessions
 
+-- the reply accepts a statement
 abbrev pub is_defined : Reply → Bool
-is_defined Defined = true
-is_defined _ = false
+is_defined reply.Defined = true
+is_defined (reply.Opened session) = false
+is_defined reply.Set = false
+is_defined (reply.Admitted query pool grant own borrowed) = false
+is_defined (reply.Waiting query place) = false
+is_defined (reply.Ended end) = false
+is_defined reply.Go = false
+is_defined (reply.MovedOn pool) = false
+is_defined (reply.GiveWay pool) = false
+is_defined (reply.CapEnded which ran cap) = false
+is_defined reply.Stopping = false
+is_defined (reply.Released grant) = false
+is_defined reply.Cancelled = false
+is_defined reply.Closed = false
+is_defined (reply.Refused refusal) = false
 
 -- an entry of an accepted statement
 abbrev pub is_definition : Entry → Bool

@@ -1,14 +1,13 @@
--- One event of the pool machine, and histories of events.
-use Rattle.std.specs.Prelude.{◌≡◌, ℕ, Bool, true, false, ◌||◌, ◌==◌, List, [], ◌∷◌, ◌++◌, is_some, max, filter, if◌then◌else◌}
+-- One event of the pool machine.
+use Rattle.std.specs.Prelude.{◌≡◌, ℕ, Bool, true, false, ◌||◌, [], ◌∷◌, ◌++◌, List, is_some, max, if◌then◌else◌}
 use Rattle.rm_base.specs.declared.entry.Entry.{Entry}
 use Rattle.rm_base.specs.declared.event.Event.{Event}
-use Rattle.rm_base.specs.declared.event.Event.TheVariants.{Define}
-use Rattle.rm_base.specs.Ranges.{is_statement_in_range}
 use Rattle.rm_base.specs.declared.reply.Reply.{Reply}
+use Rattle.rm_rules.specs.declared.answer.Answer.{Answer}
 use Rattle.rm_rules.specs.State.{State}
-use Rattle.rm_rules.specs.Acceptance.{is_pool_statement}
 use Rattle.rm_rules.specs.Settle.{settled}
-use Rattle.rm_rules.specs.Change.{Answer, Change, change, reply_of, answered, tried}
+use Rattle.rm_rules.specs.Change.{Change, change, tried}
+use Rattle.rm_rules.specs.Answers.{reply_of, answered}
 use Rattle.rm_rules.specs.Deadlines.{first_due, without_due}
 
 -- what an event leaves, what is replied, and whether it made an entry
@@ -26,8 +25,8 @@ abbrev pub recorded : State → Entry → State
 recorded s entry = record s { journal = s.journal ++ entry ∷ [] }
 
 -- an event that changed something: the state has settled, the answer is given, and the entry is made
-abbrev pub accepted : ℕ → Event → State → Answer → Outcome
-accepted seat event s answer = record {
+abbrev pub entered : ℕ → Event → State → Answer → Outcome
+entered seat event s answer = record {
   state = recorded (answered s answer) (noted seat s.clock event (reply_of s answer));
   reply = reply_of s answer;
   entry = true;
@@ -40,7 +39,7 @@ quietly s answer = record { state = s; reply = answer; entry = false }
 -- the outcome of an event at a state, for which deadlines have acted or none, and then this change
 abbrev pub outcome : State → Bool → ℕ → Event → Change → Outcome
 outcome s timed seat event c =
-    if timed || c.changed then accepted seat event (settled c.state) c.answer
+    if timed || c.changed then entered seat event (settled c.state) c.answer
     else quietly s (reply_of c.state c.answer)
 
 -- the state at the later of its clock and the moment that was handed in
@@ -66,36 +65,6 @@ step s seat at event = outcome s (has_due s at) seat event (attempted (found_at 
 -- the entry that an event makes, or none
 abbrev pub made : State → ℕ → ℕ → Event → List Entry
 made s seat at event = let o = step s seat at event in if o.entry then noted seat (max s.clock at) event o.reply ∷ [] else []
-
--- the state that these entries leave
-abbrev pub replay : State → List Entry → State
-replay s [] = s
-replay s (e ∷ es) = replay (step s e.seat e.at e.event).state es
-
--- a statement is on pools, and every value that it names is in its range
-abbrev pub IsFormed : Event → Type 0
-IsFormed (Define statement) = (is_pool_statement statement ≡ true) × (is_statement_in_range statement ≡ true)
-IsFormed _ = Unit {0}
-
--- each entry is just the one that its event makes at its place
-abbrev pub IsLegal : State → List Entry → Type 0
-IsLegal s [] = Unit {0}
-IsLegal s (e ∷ es) =
-    IsFormed e.event × (made s e.seat e.at e.event ≡ e ∷ []) × IsLegal (step s e.seat e.at e.event).state es
-
--- the entries of one seat
-abbrev pub own_entries : ℕ → List Entry → List Entry
-own_entries seat entries = filter (λ e. e.seat == seat) entries
-
--- an event that is a statement
-abbrev pub is_define : Event → Bool
-is_define (Define statement) = true
-is_define _ = false
-
--- each statement comes from the first seat
-abbrev pub FromFirst : List Entry → Type 0
-FromFirst [] = Unit {0}
-FromFirst (e ∷ es) = (is_define e.event ≡ true → e.seat ≡ 0) × FromFirst es
 
 -- two states that differ in the clock and the journal alone
 abbrev pub IsSameButClock : State → State → Type 0

@@ -4,14 +4,15 @@ ghost use Rattle.std.specs.Prelude.{◌≡◌, ◌+◌, Ok, IsTrue};
 ghost use Rattle.rm_base.specs.declared.definitions.Definitions.{Definitions};
 ghost use Rattle.rm_base.specs.declared.statement.Statement.{Statement};
 ghost use Rattle.rm_rules.specs.Sound.{IsSound};
-ghost use Rattle.rm_rules.specs.Acceptance.{accepted, is_pool_statement, IsWellFormed};
+ghost use Rattle.rm_base.specs.Ranges.{is_statement_in_range};
+ghost use Rattle.rm_rules.specs.Acceptance.{accepted, is_judged};
 
 /// What is accepted leads from sound definitions to sound ones, so GENERAL still stands first.
 pub fn accepted_statements_keep_soundness()
     ensures { (d : Definitions) (statement : Statement) (new : Definitions)
         → IsSound d
-        → IsWellFormed statement
-        → IsTrue (is_pool_statement statement)
+        → IsTrue (is_statement_in_range statement)
+        → IsTrue (is_judged statement)
         → accepted d statement ≡ Ok new
         → IsSound new }
 {}
@@ -19,11 +20,11 @@ pub fn accepted_statements_keep_soundness()
 /// What is accepted is one change, also where it alters nothing, and the machine stays as it is.
 pub fn accepted_statements_are_counted()
     ensures changes { (d : Definitions) (statement : Statement) (new : Definitions)
-        → IsTrue (is_pool_statement statement)
+        → IsTrue (is_judged statement)
         → accepted d statement ≡ Ok new
         → new.changes ≡ d.changes + 1 }
     ensures machine { (d : Definitions) (statement : Statement) (new : Definitions)
-        → IsTrue (is_pool_statement statement)
+        → IsTrue (is_judged statement)
         → accepted d statement ≡ Ok new
         → (new.memory ≡ d.memory) × (new.cores ≡ d.cores) }
 {}

@@ -2,7 +2,7 @@
 #![tactic(auto)]
 
 pub mod acceptance;
-pub mod history;
+pub mod answer;
+pub mod readings;
 pub mod room;
-pub mod rows;
 pub mod state;

@@ -55,6 +55,21 @@ pub struct Runner {
     pub cancelled: bool,
 }
 
+/// What a running query holds, in bytes, and the pool in which it runs.
+#[derive(Clone, Copy, Debug, PartialEq, Eq)]
+pub struct Holding {
+    pub query: u64,
+    pub pool: Name,
+    pub bytes: u64,
+}
+
+/// A pool but GENERAL, with its actual size in bytes: so much of the memory in force is set aside for it.
+#[derive(Clone, Copy, Debug, PartialEq, Eq)]
+pub struct Reserve {
+    pub pool: Name,
+    pub size: u64,
+}
+
 /// A cap on a query's memory, in bytes, and whose it is.
 #[derive(Clone, Copy, Debug, PartialEq, Eq)]
 pub struct Cap {

@@ -1,7 +1,7 @@
 use Rattle.std.proofs.Common.{arith, rules, ◌≡◌}
 use Rattle.rm_rules.specs.Definitions.{reserved}
-use Rattle.pool_table.proofs.Sizes.{reserved_most}
-use Rattle.pool_table.proofs.rows.reserved.Goals as goal
+use Rattle.rm_rules.proofs.Sizes.{reserved_most}
+use Rattle.rm_rules.proofs.readings.reserved.Goals as goal
 
 pub sum-requires-clause-fits : goal.sum-requires-clause-fits
 sum-requires-clause-fits c =

@@ -4,13 +4,13 @@ use Rattle.std.specs.List.{list_all}
 use Rattle.std.proofs.Common.{arith}
 use Rattle.std.proofs.lemmas.Bool.{leb-true}
 use Rattle.std.proofs.lemmas.List.Sums.{sum_by-cons}
-use Rattle.rm_base.specs.declared.limits.TheConstants.{MEMORY_MOST, POOLS_MOST}
+use Rattle.rm_base.specs.declared.limits.TheConstants.{MEMORY_LEAST, MEMORY_MOST, POOLS_MOST}
 use Rattle.rm_base.specs.declared.definitions.Definitions.{Definitions}
 use Rattle.rm_base.specs.declared.rows.PoolRow.{PoolRow}
 use Rattle.rm_base.specs.declared.name.Name.{Name}
 use Rattle.rm_base.specs.Name.{same_name, general}
 use Rattle.rm_base.specs.Definitions.{default_pool_row}
-use Rattle.rm_rules.specs.Definitions.{pool_called, pool_row, total, reserved}
+use Rattle.rm_rules.specs.Definitions.{pool_called, pool_row, total, reserved, usable}
 use Rattle.rm_rules.specs.Sound.{IsSound}
 use Rattle.rm_base.specs.Ranges.{passes_if_set, is_pool_in_range}
 use Rattle.rm_rules.proofs.Taken.{and_left, and_right, all_found}
@@ -33,7 +33,7 @@ row-in_range pools name (Some r) e all = all_found is_pool_in_range (λ x. same_
 -- the total is within the greatest memory
 pub total_most : (d : Definitions) → d.memory ≤ MEMORY_MOST → list_all is_pool_in_range d.pools ≡ true → total d ≤ MEMORY_MOST
 total_most d memory all =
-    unwrapped-most (pool_row d general).max (95 * d.memory / 100)
+    unwrapped-most (pool_row d general).max (usable d.memory)
     (max-passes (pool_row d general) (row-in_range d.pools general (pool_called d.pools general) refl all)) (omega arith)
 
 sum-most : (pools : List PoolRow) → list_all is_pool_in_range pools ≡ true → sum_by (λ r. r.memory) pools ≤ length pools * MEMORY_MOST
@@ -45,5 +45,5 @@ sum-most (r ∷ rs) all =
 pub reserved_most : (d : Definitions) → length d.pools ≤ POOLS_MOST → list_all is_pool_in_range d.pools ≡ true → reserved d ≤ POOLS_MOST * MEMORY_MOST
 reserved_most d few all = omega (arith, sum-most d.pools all)
 
-pub sound_memory-most : (d : Definitions) → IsSound d → d.memory ≤ MEMORY_MOST
-sound_memory-most d sound = leb-true d.memory MEMORY_MOST (and_right (nat_le 16777216 d.memory) _ sound.memory)
+pub sound_memory_most : (d : Definitions) → IsSound d → d.memory ≤ MEMORY_MOST
+sound_memory_most d sound = leb-true d.memory MEMORY_MOST (and_right (nat_le MEMORY_LEAST d.memory) _ sound.memory)

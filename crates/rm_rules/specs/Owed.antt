@@ -1,0 +1,25 @@
+-- How many entries the journal may still get: those that live queries and open sessions may make.
+use Rattle.std.specs.Prelude.{ℕ, ◌+◌, ◌-◌, ◌*◌, is_some, length, sum_by, count_by, if◌then◌else◌}
+use Rattle.rm_base.specs.declared.limits.TheConstants.{ENTRIES_A_SESSION, MOVES_MOST}
+use Rattle.rm_rules.specs.declared.state.Waiter.{Waiter}
+use Rattle.rm_rules.specs.declared.state.Runner.{Runner}
+use Rattle.rm_rules.specs.State.{State, is_ended}
+
+-- One move makes three entries at most: the one that tells the query to give way, a cancellation behind that, and its
+-- giving way.
+abbrev pub entries_moving : ℕ → ℕ
+entries_moving moves = 3 * (MOVES_MOST - moves)
+
+-- A waiting query makes those of its moves, and then two: it ends and is collected, or is cancelled and finishes.
+abbrev pub entries_waiting : Waiter → ℕ
+entries_waiting w = entries_moving w.moves + 2
+
+-- A running query that is to give way makes up to two more first; one that was cancelled is not cancelled again.
+abbrev pub entries_running : Runner → ℕ
+entries_running r = entries_moving r.moves + (if is_some r.leaving then 2 else 0) + (if r.cancelled then 1 else 2)
+
+-- An end that nobody has collected makes one.
+abbrev pub entries_owed : State → ℕ
+entries_owed s =
+    sum_by entries_waiting s.waiting + sum_by entries_running s.running
+    + count_by (λ x. is_ended x.phase) s.sessions + ENTRIES_A_SESSION * length s.sessions

@@ -1,0 +1,36 @@
+-- What an event leaves of the sessions of others.
+use Rattle.std.specs.Prelude.{◌≡◌, ◌≢◌, ◌⊎◌, ℕ, Option, Some, None}
+use Rattle.rm_base.specs.declared.event.Event.{Event}
+use Rattle.rm_base.specs.declared.event.Event.TheVariants.{Define, Open, SetPool, Submit, Poll, Finish}
+use Rattle.rm_base.specs.declared.reply.End.{End}
+use Rattle.rm_rules.specs.declared.state.Phase.{Phase}
+use Rattle.rm_rules.specs.declared.state.Phase.TheVariants as phase
+use Rattle.rm_rules.specs.declared.state.Session.{Session}
+
+-- the session for which an event is
+abbrev pub session_in : Event → Option ℕ
+session_in (Define statement) = None
+session_in (Open user) = None
+session_in (SetPool session pool) = Some session
+session_in (Submit session floor) = Some session
+session_in (Poll session) = Some session
+session_in (Finish session) = Some session
+
+-- an event of this seat is for another session than this one, or this one is not the seat's
+abbrev pub IsForeign : ℕ → Event → Session → Type 0
+IsForeign seat event x = (session_in event ≢ Some x.number) ⊎ (x.seat ≢ seat)
+
+-- what other sessions' events may bring a query: one that waits may begin to run, or end in the queue
+pub data Settles : Phase → Phase → Type 0 where
+  Stays : (p : Phase) → Settles p p
+  Runs : Settles phase.Waiting phase.Running
+  Ends : (end : End) → Settles phase.Waiting (phase.Ended end)
+
+-- what an event that is not for a session leaves of it
+pub record IsLeft (old new : Session) : Type 0 where
+  pub number : new.number ≡ old.number
+  pub seat : new.seat ≡ old.seat
+  pub user : new.user ≡ old.user
+  pub pool : new.pool ≡ old.pool
+  pub cap_ms : new.cap_ms ≡ old.cap_ms
+  pub phase : Settles old.phase new.phase
