@@ -1,3 +1,4 @@
+mod base;
 mod outside;
 mod words;
 
