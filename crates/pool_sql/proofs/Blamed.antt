@@ -16,7 +16,8 @@ use Rattle.pool_sql.specs.declared.stop.Stop.{Stop}
 use Rattle.pool_sql.specs.declared.stop.Stop.TheVariants as stop
 use Rattle.pool_sql.specs.Names.{name_of}
 use Rattle.pool_sql.specs.Parameter.{parameter_of, takes_any}
-use Rattle.pool_sql.specs.Setting.{is_named, set}
+use Rattle.rm_base.specs.WellFormed.{is_named}
+use Rattle.pool_sql.specs.Setting.{set}
 use Rattle.pool_sql.specs.Value.{is_none, negative_of, some_name, value_of}
 use Rattle.pool_sql.specs.Grammar.{IsBody, IsValueDue}
 use Rattle.pool_sql.specs.Machine.{Stepped, Edge, begun, edges, is_minus, is_semicolon, keyed, on_key, on_name, on_negative, on_other, on_parameter, on_role_pool, on_value, role_given, step, stranger, usage_given}

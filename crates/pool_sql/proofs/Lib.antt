@@ -9,7 +9,6 @@ pub mod Amounts
 pub mod Capped
 pub mod Readings
 pub mod Rights
-pub mod Ranges
 pub mod Results
 pub mod Prints
 pub mod Texts
