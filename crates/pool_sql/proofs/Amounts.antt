@@ -4,13 +4,13 @@ use Rattle.std.proofs.lemmas.Bool.{lt-leb, cases_lt, ne_eqb}
 use Rattle.std.specs.Char.{to_ascii_lowercase}
 use Rattle.std.specs.Str.Parse.{digits_value}
 use Rattle.rm_base.specs.declared.limits.TheConstants.{GIBI, HOUR_MS, KIBI, MEBI, MEMORY_MOST, MINUTE_MS, PERCENT_MOST, SECOND_MS, SPAN_MOST, TEBI}
-use Rattle.rm_words.specs.declared.class.Class.{Class}
-use Rattle.rm_words.specs.declared.class.Class.TheVariants as class
 use Rattle.rm_words.specs.Class.{class_of}
 use Rattle.rm_words.specs.Word.{is_digit}
 use Rattle.rm_words.specs.Token.{AreDigits, most}
+use Rattle.rm_words.proofs.Tokens.{digit_is}
 use Rattle.pool_sql.specs.declared.stop.Fault.TheVariants.{Form, Outside}
 use Rattle.pool_sql.specs.Amount.{bytes, bytes_in, digit_count, front_number, ms_in, percent, percent_in, size_in, span_in, unit_bytes, unit_ms, behind_digits, within}
+use Rattle.pool_sql.proofs.Results.{some_is, none_some}
 
 -- a number is as great as it is, or above
 times_up : (n unit : ℕ) → 1 ≤ unit → n ≤ n * unit
@@ -37,12 +37,6 @@ within-capped_one least top n cap below = elim (cases_lt cap n) [
   | inl h ↦ above least top (min n cap) (omega arith) ∙ sym (above least top n (omega arith))
   | inr h ↦ let same : min n cap ≡ n = omega arith in ap (λ x. within least top x) same
 ]
-
-some_is : (a b : ℕ) → ◌≡◌ {A = Option ℕ} (Some a) (Some b) → a ≡ b
-some_is a b h = cc
-
-none_some : (a : ℕ) → ◌≡◌ {A = Option ℕ} None (Some a) → ⊥
-none_some a h = cc
 
 bytes_units : (k m g t : Bool) (unit : ℕ)
     → (if k then Some KIBI else (if m then Some MEBI else (if g then Some GIBI else (if t then Some TEBI else None)))) ≡ Some unit
@@ -93,17 +87,6 @@ span_in-capped low n (c ∷ unit) = turn (c == 32)
     turn : (b : Bool) → (if b then ms_in low (min n most) (unit_ms unit) else Err Form) ≡ (if b then ms_in low n (unit_ms unit) else Err Form)
     turn true = ms_in-capped low n (unit_ms unit) (unit_ms-least unit)
     turn false = refl
-
-digit_is : (k : Class) → is_digit k ≡ true → k ≡ class.Digit
-digit_is class.Digit h = refl
-digit_is class.Letter h = absurd cc
-digit_is class.Quote h = absurd cc
-digit_is class.Blank h = absurd cc
-digit_is class.Less h = absurd cc
-digit_is class.Greater h = absurd cc
-digit_is class.Equal h = absurd cc
-digit_is class.Mark h = absurd cc
-digit_is class.Other h = absurd cc
 
 plus_one : (n : ℕ) → n + 1 ≡ suc n
 plus_one n = omega arith

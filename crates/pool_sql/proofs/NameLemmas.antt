@@ -11,6 +11,7 @@ use Rattle.rm_base.proofs.Spelled.{name_kept-same}
 use Rattle.rm_words.specs.Token.{Token, Bare, Number, Quoted, Sign}
 use Rattle.pool_sql.specs.Grammar.{name}
 use Rattle.pool_sql.specs.Names.{name_called, name_of}
+use Rattle.pool_sql.proofs.Results.{some_is, none_some}
 
 -- the name with a text
 record Called (text : List ℕ) : Type 0 where
@@ -46,16 +47,10 @@ name_called-none text is = ap (λ b. if b then name_kept (padded text) (keeps_na
 pub name_called-some : (text : List ℕ) (n : Name) → name_called text ≡ Some n → text ≡ name_text n
 name_called-some text n h = turn (is_name_text text) refl
   where
-    same_name : (a b : Name) → ◌≡◌ {A = Option Name} (Some a) (Some b) → a ≡ b
-    same_name a b e = cc
-
-    none_some : (a : Name) → ◌≡◌ {A = Option Name} None (Some a) → ⊥
-    none_some a e = cc
-
     turn : (b : Bool) → is_name_text text ≡ b → text ≡ name_text n
     turn true is =
         let found = name_called-is text is in
-        sym found.same ∙ ap name_text (same_name found.called n (sym found.is ∙ h))
+        sym found.same ∙ ap name_text (some_is found.called n (sym found.is ∙ h))
     turn false is = absurd (none_some n (sym (name_called-none text is) ∙ h))
 
 -- what `Name::of` gives

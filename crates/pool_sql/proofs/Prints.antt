@@ -48,6 +48,7 @@ use Rattle.pool_sql.proofs.Keys.{is_key-eq}
 use Rattle.pool_sql.proofs.NameLemmas.{name_called-none, name_called-text}
 use Rattle.pool_sql.proofs.Rights.{IsRightValue}
 use Rattle.pool_sql.proofs.Saying.{AllSay, AllSay-append, name-says, said-spells}
+use Rattle.pool_sql.proofs.Results.{none_some, true_false}
 
 -- words behind a first one, each behind a blank
 abbrev pub spaced : List (List ℕ) → List ℕ
@@ -217,9 +218,6 @@ reserved-no_name : (n : Name) (text : List ℕ) → name_called (folded text) �
 reserved-no_name n text none is =
     let same = is_key-eq (name n) text is in
     none_some n (sym none ∙ ap name_of (sym same) ∙ name_called-text n)
-  where
-    none_some : (a : Name) → ◌≡◌ {A = Option Name} None (Some a) → ⊥
-    none_some a h = cc
 
 none-no_name : (n : Name) → is_none (name n) ≡ true → ⊥
 none-no_name n h = elim (or_cases (is_key (name n) (codes "NONE")) (is_default (name n)) h) [
@@ -677,9 +675,6 @@ statement-prints (statement.GrantRole r u) right = grant_role-prints r u
 statement-prints (statement.RevokeRole r u) right = revoke_role-prints r u
 
 -- an ALTER without a parameter is not right
-true_false : ◌≡◌ {A = Bool} true false → ⊥
-true_false h = cc
-
 begun-wrong : (b : Bool) (st : Statement) (ts : List Token) → b ≡ false → IsBody b st ts → IsWellFormed st → ⊥
 begun-wrong _ _ _ h (alter_pool n) right = true_false (sym right.1)
 begun-wrong _ _ _ h (alter_user n) right = true_false (sym right.1)

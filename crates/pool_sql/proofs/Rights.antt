@@ -28,12 +28,7 @@ use Rattle.pool_sql.specs.Parameter.{parameter_of}
 use Rattle.pool_sql.specs.Printed.{parameter_named}
 use Rattle.pool_sql.specs.Setting.{no_pool_change, no_user_change, set, set_pool, set_user}
 use Rattle.pool_sql.specs.Value.{as_setting, defaults, is_auto, is_default, is_none, level_of, memory_size_of, optional, optional_name, optional_size, parallelism_of, priority_of, queue_timeout_of, runtime_cap_of, signed, taken, threshold_of, unless_default, value_of}
-
-ok_is : {E T : Type 0} (a b : T) → ◌≡◌ {A = Result T E} (Ok a) (Ok b) → a ≡ b
-ok_is a b h = cc
-
-err_ok : {E T : Type 0} (e : E) (b : T) → ◌≡◌ {A = Result T E} (Err e) (Ok b) → ⊥
-err_ok e b h = cc
+use Rattle.pool_sql.proofs.Results.{some_is, none_some, ok_is, err_ok, true_false}
 
 -- the value of a setting is one of those that can be written
 abbrev pub IsRightValue : Setting → Type 0
@@ -67,12 +62,6 @@ number_between-ok least top (Number n) m h = (within-ok least top n m h).1
 number_between-ok least top (Bare word) m h = absurd (err_ok Form m h)
 number_between-ok least top (Quoted text) m h = absurd (err_ok Form m h)
 number_between-ok least top (Sign s) m h = absurd (err_ok Form m h)
-
-some_is : (a b : ℕ) → ◌≡◌ {A = Option ℕ} (Some a) (Some b) → a ≡ b
-some_is a b h = cc
-
-none_some : (a : ℕ) → ◌≡◌ {A = Option ℕ} None (Some a) → ⊥
-none_some a h = cc
 
 -- each unit of sizes is so many KiB
 kibi_units : (k m g t : Bool) (unit : ℕ)
@@ -315,10 +304,7 @@ found-all f good [] p all h = absurd cc
 found-all f good (q ∷ qs) p all h = turn (f q) h (found-all f good qs p (and_parts (good q) (list_all good qs) all).1)
   where
     turn : (b : Bool) → (if b then Some q else find f qs) ≡ Some p → (find f qs ≡ Some p → good p ≡ true) → good p ≡ true
-    turn true h rest = let same : q ≡ p = same_some q p h in ap good (sym same) ∙ (and_parts (good q) (list_all good qs) all).0
-      where
-        same_some : (a b : Parameter) → ◌≡◌ {A = Option Parameter} (Some a) (Some b) → a ≡ b
-        same_some a b h = cc
+    turn true h rest = let same : q ≡ p = some_is q p h in ap good (sym same) ∙ (and_parts (good q) (list_all good qs) all).0
     turn false h rest = rest h
 
 found-any : (f good : Parameter → Bool) (ps : List Parameter) (p : Parameter) → good p ≡ true → find f ps ≡ Some p → list_any good ps ≡ true
@@ -329,11 +315,8 @@ found-any f good (q ∷ qs) p is h = turn (f q) h (found-any f good qs p is)
     or_true true = refl
     or_true false = refl
 
-    same_some : (a b : Parameter) → ◌≡◌ {A = Option Parameter} (Some a) (Some b) → a ≡ b
-    same_some a b h = cc
-
     turn : (b : Bool) → (if b then Some q else find f qs) ≡ Some p → (find f qs ≡ Some p → list_any good qs ≡ true) → list_any good (q ∷ qs) ≡ true
-    turn true h rest = ap (λ b. b || list_any good qs) (ap good (same_some q p h) ∙ is)
+    turn true h rest = ap (λ b. b || list_any good qs) (ap good (some_is q p h) ∙ is)
     turn false h rest = ap (λ b. good q || b) (rest h) ∙ or_true (good q)
 
 abbrev is_of_pool : Parameter → Bool
@@ -428,9 +411,6 @@ abbrev is_alter : Statement → Bool
 is_alter (statement.AlterPool n c) = true
 is_alter (statement.AlterUser n c) = true
 is_alter _ = false
-
-true_false : ◌≡◌ {A = Bool} true false → ⊥
-true_false h = cc
 
 whole-names : (b : Bool) (st : Statement) (ts : List Token) → b ≡ true → is_alter st ≡ true → IsBody b st ts → names_any st ≡ true
 whole-names _ _ _ whole alter (named b st ts t p x vs body is fresh value) = set-names st x t p is (value-right p x vs value).0

@@ -113,7 +113,7 @@ pub inner_end_boundary : (text : List ℕ) (span : Span) → IsWordOf text span 
 inner_end_boundary text span is =
     IsCharBoundary-before_ascii text (span.end - 1) (omega (arith, is.rises, is.within)) (last_ascii text span is)
 
-digit_is : (k : Class) → is_digit k ≡ true → k ≡ class.Digit
+pub digit_is : (k : Class) → is_digit k ≡ true → k ≡ class.Digit
 digit_is class.Digit h = refl
 digit_is class.Letter h = absurd cc
 digit_is class.Quote h = absurd cc
