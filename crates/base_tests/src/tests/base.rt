@@ -55,9 +55,9 @@ fn moments_end_at_the_greatest(rt: HostRuntime) {
     }
 }
 
-/// A refusal of each number.
-fn refusal(number: u32, name: Name) -> Option<Refusal> {
-    Some(match number {
+/// A refusal of each number, and one of each kind of value.
+fn refusal(case: u32, name: Name) -> Option<Refusal> {
+    Some(match case {
         1 => Refusal::Syntax(0),
         2 => Refusal::UnknownParameter(24),
         3 => Refusal::Repeated(Parameter::Cascade),
@@ -89,6 +89,24 @@ fn refusal(number: u32, name: Name) -> Option<Refusal> {
         29 => Refusal::TypeClash(31),
         30 => Refusal::NotGrouped(7),
         31 => Refusal::TooManyTables(3),
+        32 => Refusal::Range(Parameter::MaxMemorySize),
+        33 => Refusal::Range(Parameter::MaxQueryMemorySize),
+        34 => Refusal::Range(Parameter::ExecutionParallelism),
+        35 => Refusal::Range(Parameter::Priority),
+        36 => Refusal::Range(Parameter::RuntimePriority),
+        37 => Refusal::Range(Parameter::RuntimePriorityThreshold),
+        38 => Refusal::Range(Parameter::QueueTimeout),
+        39 => Refusal::Range(Parameter::PlannedConcurrency),
+        40 => Refusal::Range(Parameter::MaxConcurrency),
+        41 => Refusal::Range(Parameter::RuntimeCap),
+        42 => Refusal::Range(Parameter::MemoryCap),
+        43 => Refusal::Repeated(Parameter::ResourcePool),
+        44 => Refusal::TableFull(TableKind::Users, 256),
+        45 => Refusal::TableFull(TableKind::Roles, 64),
+        46 => Refusal::TableFull(TableKind::Grants, 1_024),
+        47 => Refusal::TableFull(TableKind::Changes, 4_096),
+        48 => Refusal::TooLarge(CapKind::Pool, 7, 5),
+        49 => Refusal::TooLarge(CapKind::User, 7, 5),
         _ => return None,
     })
 }
@@ -126,15 +144,32 @@ refused 28 etl
 refused 29 31
 refused 30 7
 refused 31 3
+refused 5 MAXMEMORYSIZE
+refused 5 MAXQUERYMEMORYSIZE
+refused 5 EXECUTIONPARALLELISM
+refused 5 PRIORITY
+refused 5 RUNTIMEPRIORITY
+refused 5 RUNTIMEPRIORITYTHRESHOLD
+refused 5 QUEUETIMEOUT
+refused 5 PLANNEDCONCURRENCY
+refused 5 MAXCONCURRENCY
+refused 5 RUNTIMECAP
+refused 5 MEMORYCAP
+refused 3 RESOURCE
+refused 17 users 256
+refused 17 roles 64
+refused 17 grants 1024
+refused 17 changes 4096
+refused 19 pool 7 5
+refused 19 user 7 5
 ";
 
 #[test]
 fn writes_refusals(rt: HostRuntime) -> Result<(), Fail> {
     let etl = Name::of("ETL").ok_or("etl")?;
     let mut written = String::new(rt.alloc());
-    for number in 1..=31 {
-        let refusal = refusal(number, etl).ok_or("no refusal")?;
-        assert_eq!(rt; refusal.number(), number);
+    for case in 1..=49 {
+        let refusal = refusal(case, etl).ok_or("no refusal")?;
         written.push_str(refusal.to_string(rt.alloc())?.as_str())?;
         written.push('\n')?;
     }
@@ -142,61 +177,16 @@ fn writes_refusals(rt: HostRuntime) -> Result<(), Fail> {
     Ok(())
 }
 
-static PARAMETERS: [(Parameter, &str); 14] = [
-    (Parameter::MemorySize, "MEMORYSIZE"),
-    (Parameter::MaxMemorySize, "MAXMEMORYSIZE"),
-    (Parameter::MaxQueryMemorySize, "MAXQUERYMEMORYSIZE"),
-    (Parameter::ExecutionParallelism, "EXECUTIONPARALLELISM"),
-    (Parameter::Priority, "PRIORITY"),
-    (Parameter::RuntimePriority, "RUNTIMEPRIORITY"),
-    (
-        Parameter::RuntimePriorityThreshold,
-        "RUNTIMEPRIORITYTHRESHOLD",
-    ),
-    (Parameter::QueueTimeout, "QUEUETIMEOUT"),
-    (Parameter::PlannedConcurrency, "PLANNEDCONCURRENCY"),
-    (Parameter::MaxConcurrency, "MAXCONCURRENCY"),
-    (Parameter::RuntimeCap, "RUNTIMECAP"),
-    (Parameter::Cascade, "CASCADE"),
-    (Parameter::ResourcePool, "RESOURCE"),
-    (Parameter::MemoryCap, "MEMORYCAP"),
-];
-
-static TABLES: [(TableKind, &str); 5] = [
-    (TableKind::Pools, "pools"),
-    (TableKind::Users, "users"),
-    (TableKind::Roles, "roles"),
-    (TableKind::Grants, "grants"),
-    (TableKind::Changes, "changes"),
-];
-
-static CAPS: [(CapKind, &str); 3] = [
-    (CapKind::Pool, "pool"),
-    (CapKind::Query, "query"),
-    (CapKind::User, "user"),
-];
-
-static OWNERS: [(CapOwner, &str); 3] = [
-    (CapOwner::User, "user"),
-    (CapOwner::Session, "session"),
-    (CapOwner::Pool, "pool"),
-];
-
 #[test]
-fn writes_each_kind(rt: HostRuntime) -> Result<(), Fail> {
-    for (named, text) in PARAMETERS {
-        assert_eq!(rt; named.text(), text);
-        assert_eq!(rt; named.to_string(rt.alloc())?.as_str(), text);
-    }
-    for (kind, text) in TABLES {
-        assert_eq!(rt; kind.to_string(rt.alloc())?.as_str(), text);
-    }
-    for (which, text) in CAPS {
-        assert_eq!(rt; which.to_string(rt.alloc())?.as_str(), text);
-    }
-    for (owner, text) in OWNERS {
-        assert_eq!(rt; owner.to_string(rt.alloc())?.as_str(), text);
-    }
+fn writes_whose_cap_it_is(rt: HostRuntime) -> Result<(), Fail> {
+    let owners = format!(in rt.alloc();
+        "{} {} {}",
+        CapOwner::User,
+        CapOwner::Session,
+        CapOwner::Pool
+    )?;
+    assert_eq!(rt; owners.as_str(), "user session pool");
+    assert_eq!(rt; Parameter::Cascade.text(), "CASCADE");
     Ok(())
 }
 
