@@ -1,8 +1,8 @@
 //! Texts, and how they are cut into words.
 
-use crate::tests::with_blanks;
+use crate::tests::whole_text;
 use rm_words::cutting::{cut, words};
-use rm_words::spans::{Cut, WordsError};
+use rm_words::spans::{Cut, Span, WordsError};
 use rm_words::token::{Token, token_at, undoubled};
 use std::alloc::{AllocError, Global};
 use std::process::Abort;
@@ -69,31 +69,36 @@ it''s => it's
 é''§ => é'§
 ";
 
-/// A piece of a text, how often it stands there, how many words that makes, and where there is no word.
-static LONG: [(&str, u64, usize, Option<u64>); 5] = [
-    (" ", 2_000_000, 0, None),
-    ("a ", 1_000_000, 1_000_000, None),
-    ("''", 1_000_000, 1, None),
-    ("abc", 700_000, 1, None),
-    ("'a", 1_000_001, 1_000_000, Some(2_000_000)),
-];
+/// A text of a million pieces and more, how many words it has, and the place where there is no word.
+static LONG: &str = "\
+{  } => 0 whole
+{a } => 1000000 whole
+{''} => 1 whole
+{abc} => 1 whole
+{'a}'a => 1000000 stuck 2000000
+";
 
-/// The places of the words, as the cases write them.
+/// Where a cut ends, as the cases write it.
+fn end_of(alloc: Global, stuck: Option<u64>) -> Result<String, AllocError> {
+    match stuck {
+        None => String::from_str(alloc, "whole"),
+        Some(place) => format!(in alloc; "stuck {place}"),
+    }
+}
+
+/// The places of the words and where the cut ends, as the cases write them.
 fn places(alloc: Global, cut: &Cut) -> Result<String, AllocError> {
     let mut told = String::new(alloc);
-    for span in cut.words.as_slice() {
-        told.push_str(format!(in alloc; "{}-{} ", span.start, span.end)?.as_str())?;
+    for Span { start, end } in cut.words.as_slice() {
+        told.push_str(format!(in alloc; "{start}-{end} ")?.as_str())?;
     }
-    match cut.stuck {
-        None => told.push_str("whole")?,
-        Some(place) => told.push_str(format!(in alloc; "stuck {place}")?.as_str())?,
-    }
+    told.push_str(end_of(alloc, cut.stuck)?.as_str())?;
     Ok(told)
 }
 
 fn check_cut(rt: &impl Abort, alloc: Global, case: &str) -> Result<(), Fail> {
     let (text, expected) = case.rsplit_once(" => ").ok_or("no =>")?;
-    let text = with_blanks(alloc, text)?;
+    let text = whole_text(alloc, text)?;
     let found = cut(alloc, text.as_bytes())?;
     assert_eq!(rt; places(alloc, &found)?.as_str(), expected, "{case}");
     match words(alloc, text.as_str()) {
@@ -154,14 +159,14 @@ fn quotes_are_undoubled(rt: HostRuntime) -> Result<(), Fail> {
 /// A scan that read on behind each word would not end here.
 #[test]
 fn long_texts_are_cut(rt: HostRuntime) -> Result<(), Fail> {
-    for (piece, times, count, stuck) in &LONG {
-        let mut text = String::new(rt.alloc());
-        for _ in 0..*times {
-            text.push_str(piece)?;
-        }
+    for case in LONG.lines() {
+        let (text, expected) = case.rsplit_once(" => ").ok_or("no =>")?;
+        let text = whole_text(rt.alloc(), text)?;
         let found = cut(rt.alloc(), text.as_bytes())?;
-        assert_eq!(rt; found.words.as_slice().len(), *count, "words of {piece:?}");
-        assert_eq!(rt; found.stuck, *stuck, "end of {piece:?}");
+        let count = found.words.as_slice().len();
+        let end = end_of(rt.alloc(), found.stuck)?;
+        let told = format!(in rt.alloc(); "{count} {end}")?;
+        assert_eq!(rt; told.as_str(), expected, "{case}");
     }
     Ok(())
 }
