@@ -3,14 +3,14 @@ use Rattle.std.proofs.Common.{◌≡◌, ℕ, zero, suc, ◌+◌, ◌*◌, ◌<�
 use Rattle.std.proofs.lemmas.Bool.{lt-leb, cases_lt, ne_eqb}
 use Rattle.std.specs.Char.{to_ascii_lowercase}
 use Rattle.std.specs.Str.Parse.{digits_value}
-use Rattle.rm_base.specs.declared.limits.TheConstants.{MEMORY_MOST, SPAN_MOST}
-use Rattle.rm_words.specs.declared.class.Class.{Class}
-use Rattle.rm_words.specs.declared.class.Class.TheVariants as class
+use Rattle.rm_base.specs.declared.limits.TheConstants.{GIBI, HOUR_MS, KIBI, MEBI, MEMORY_MOST, MINUTE_MS, PERCENT_MOST, SECOND_MS, SPAN_MOST, TEBI}
 use Rattle.rm_words.specs.Class.{class_of}
 use Rattle.rm_words.specs.Word.{is_digit}
 use Rattle.rm_words.specs.Token.{AreDigits, most}
+use Rattle.rm_words.proofs.Tokens.{digit_is}
 use Rattle.pool_sql.specs.declared.stop.Fault.TheVariants.{Form, Outside}
-use Rattle.pool_sql.specs.Amount.{bytes, bytes_in, digit_count, front_number, ms_in, percent, percent_in, size_in, span_in, unit_bytes, unit_ms, unit_of, within}
+use Rattle.pool_sql.specs.Amount.{bytes, bytes_in, digit_count, front_number, ms_in, percent, percent_in, size_in, span_in, unit_bytes, unit_ms, behind_digits, within}
+use Rattle.pool_sql.proofs.Results.{some_is, none_some}
 
 -- a number is as great as it is, or above
 times_up : (n unit : ℕ) → 1 ≤ unit → n ≤ n * unit
@@ -38,19 +38,13 @@ within-capped_one least top n cap below = elim (cases_lt cap n) [
   | inr h ↦ let same : min n cap ≡ n = omega arith in ap (λ x. within least top x) same
 ]
 
-some_is : (a b : ℕ) → ◌≡◌ {A = Option ℕ} (Some a) (Some b) → a ≡ b
-some_is a b h = cc
-
-none_some : (a : ℕ) → ◌≡◌ {A = Option ℕ} None (Some a) → ⊥
-none_some a h = cc
-
 bytes_units : (k m g t : Bool) (unit : ℕ)
-    → (if k then Some 1024 else (if m then Some 1048576 else (if g then Some 1073741824 else (if t then Some 1099511627776 else None)))) ≡ Some unit
+    → (if k then Some KIBI else (if m then Some MEBI else (if g then Some GIBI else (if t then Some TEBI else None)))) ≡ Some unit
     → 1 ≤ unit
-bytes_units true m g t unit h = subst (λ x. 1 ≤ x) (some_is 1024 unit h) (lit≤ tt)
-bytes_units false true g t unit h = subst (λ x. 1 ≤ x) (some_is 1048576 unit h) (lit≤ tt)
-bytes_units false false true t unit h = subst (λ x. 1 ≤ x) (some_is 1073741824 unit h) (lit≤ tt)
-bytes_units false false false true unit h = subst (λ x. 1 ≤ x) (some_is 1099511627776 unit h) (lit≤ tt)
+bytes_units true m g t unit h = subst (λ x. 1 ≤ x) (some_is KIBI unit h) (lit≤ tt)
+bytes_units false true g t unit h = subst (λ x. 1 ≤ x) (some_is MEBI unit h) (lit≤ tt)
+bytes_units false false true t unit h = subst (λ x. 1 ≤ x) (some_is GIBI unit h) (lit≤ tt)
+bytes_units false false false true unit h = subst (λ x. 1 ≤ x) (some_is TEBI unit h) (lit≤ tt)
 bytes_units false false false false unit h = absurd (none_some unit h)
 
 unit_bytes-least : (c unit : ℕ) → unit_bytes c ≡ Some unit → 1 ≤ unit
@@ -58,12 +52,12 @@ unit_bytes-least c unit h =
     let low = to_ascii_lowercase c in bytes_units (low == 107) (low == 109) (low == 103) (low == 116) unit h
 
 ms_units : (a b c d : Bool) (unit : ℕ)
-    → (if a then Some 1 else (if b then Some 1000 else (if c then Some 60000 else (if d then Some 3600000 else None)))) ≡ Some unit
+    → (if a then Some 1 else (if b then Some SECOND_MS else (if c then Some MINUTE_MS else (if d then Some HOUR_MS else None)))) ≡ Some unit
     → 1 ≤ unit
 ms_units true b c d unit h = subst (λ x. 1 ≤ x) (some_is 1 unit h) (lit≤ tt)
-ms_units false true c d unit h = subst (λ x. 1 ≤ x) (some_is 1000 unit h) (lit≤ tt)
-ms_units false false true d unit h = subst (λ x. 1 ≤ x) (some_is 60000 unit h) (lit≤ tt)
-ms_units false false false true unit h = subst (λ x. 1 ≤ x) (some_is 3600000 unit h) (lit≤ tt)
+ms_units false true c d unit h = subst (λ x. 1 ≤ x) (some_is SECOND_MS unit h) (lit≤ tt)
+ms_units false false true d unit h = subst (λ x. 1 ≤ x) (some_is MINUTE_MS unit h) (lit≤ tt)
+ms_units false false false true unit h = subst (λ x. 1 ≤ x) (some_is HOUR_MS unit h) (lit≤ tt)
 ms_units false false false false unit h = absurd (none_some unit h)
 
 unit_ms-least : (text : List ℕ) (unit : ℕ) → unit_ms text ≡ Some unit → 1 ≤ unit
@@ -82,7 +76,7 @@ size_in-capped n [] = refl
 size_in-capped n (c ∷ []) = turn (c == 37)
   where
     turn : (b : Bool) → (if b then percent_in (min n most) else bytes_in (min n most) (unit_bytes c)) ≡ (if b then percent_in n else bytes_in n (unit_bytes c))
-    turn true = ap percent (within-capped_one 0 100 n most (lit< tt))
+    turn true = ap percent (within-capped_one 0 PERCENT_MOST n most (lit< tt))
     turn false = bytes_in-capped n (unit_bytes c) (unit_bytes-least c)
 size_in-capped n (c ∷ d ∷ more) = refl
 
@@ -93,17 +87,6 @@ span_in-capped low n (c ∷ unit) = turn (c == 32)
     turn : (b : Bool) → (if b then ms_in low (min n most) (unit_ms unit) else Err Form) ≡ (if b then ms_in low n (unit_ms unit) else Err Form)
     turn true = ms_in-capped low n (unit_ms unit) (unit_ms-least unit)
     turn false = refl
-
-digit_is : (k : Class) → is_digit k ≡ true → k ≡ class.Digit
-digit_is class.Digit h = refl
-digit_is class.Letter h = absurd cc
-digit_is class.Quote h = absurd cc
-digit_is class.Blank h = absurd cc
-digit_is class.Less h = absurd cc
-digit_is class.Greater h = absurd cc
-digit_is class.Equal h = absurd cc
-digit_is class.Mark h = absurd cc
-digit_is class.Other h = absurd cc
 
 plus_one : (n : ℕ) → n + 1 ≡ suc n
 plus_one n = omega arith
@@ -123,11 +106,11 @@ pub front_read : {R : Type 0} (f : ℕ → List ℕ → R) (none r : R) (text di
     → ((n : ℕ) (u : List ℕ) → f (min n most) u ≡ f n u)
     → count ≡ digit_count text → (count ≡ 0 → ⊥) → digits ≡ take count text → unit ≡ drop count text
     → value ≡ min (digits_value 10 digits) most → r ≡ f value unit
-    → r ≡ (if digit_count text == 0 then none else f (front_number text) (unit_of text))
+    → r ≡ (if digit_count text == 0 then none else f (front_number text) (behind_digits text))
 front_read f none r text digits unit count value same is some front rest told gives =
     gives
     ∙ ap (λ n. f n unit) told
     ∙ same (digits_value 10 digits) unit
     ∙ ap (λ l. f (digits_value 10 l) unit) (front ∙ ap (λ n. take n text) is)
     ∙ ap (λ l. f (front_number text) l) (rest ∙ ap (λ n. drop n text) is)
-    ∙ sym (ap (λ b. if b then none else f (front_number text) (unit_of text)) (ne_eqb (digit_count text) 0 (λ e. some (is ∙ e))))
+    ∙ sym (ap (λ b. if b then none else f (front_number text) (behind_digits text)) (ne_eqb (digit_count text) 0 (λ e. some (is ∙ e))))

@@ -16,21 +16,17 @@ use Rattle.pool_sql.specs.declared.stop.Stop.{Stop}
 use Rattle.pool_sql.specs.declared.stop.Stop.TheVariants as stop
 use Rattle.pool_sql.specs.Names.{name_of}
 use Rattle.pool_sql.specs.Parameter.{parameter_of, takes_any}
-use Rattle.pool_sql.specs.Setting.{is_named, set}
+use Rattle.rm_base.specs.WellFormed.{is_named}
+use Rattle.pool_sql.specs.Setting.{set}
 use Rattle.pool_sql.specs.Value.{is_none, negative_of, some_name, value_of}
 use Rattle.pool_sql.specs.Grammar.{IsBody, IsValueDue}
 use Rattle.pool_sql.specs.Machine.{Stepped, Edge, begun, edges, is_minus, is_semicolon, keyed, on_key, on_name, on_negative, on_other, on_parameter, on_role_pool, on_value, role_given, step, stranger, usage_given}
 use Rattle.pool_sql.specs.Grammar.{Blames, IsWhy, unknown, affinity, repeated, value, negative}
 use Rattle.pool_sql.specs.Machine.{run}
 use Rattle.pool_sql.specs.Parameter.{is_affinity}
-use Rattle.pool_sql.proofs.Means.{IsMinusRead, Means, is_minus-eq, minus_read, ok_is}
+use Rattle.pool_sql.proofs.Means.{IsMinusRead, Means, is_minus-eq, minus_read}
 use Rattle.pool_sql.proofs.Complete.{complete, due-run, run-after}
-
-err_is : (a b : Stop) → (let r : Stepped = Err a in let s : Stepped = Err b in r ≡ s) → a ≡ b
-err_is a b h = cc
-
-not_ok : (q : Progress) (why : Stop) → (let r : Stepped = Ok q in let s : Stepped = Err why in r ≡ s) → ⊥
-not_ok q why h = cc
+use Rattle.pool_sql.proofs.Results.{ok_is, err_is, ok_err}
 
 -- a fault is blamed, or it is Syntax
 abbrev Told : List Token → Token → Stop → Type 0
@@ -42,23 +38,23 @@ on_key-syntax (e ∷ es) t why h = key-turn (is_key t e.0) e.1 h (λ rest. on_ke
   where
     key-turn : (b : Bool) (q : Progress) → (if b then Ok q else on_key es t) ≡ Err why
         → (on_key es t ≡ Err why → why ≡ stop.Syntax) → why ≡ stop.Syntax
-    key-turn true q h rest = absurd (not_ok q why h)
+    key-turn true q h rest = absurd (ok_err q why h)
     key-turn false q h rest = rest h
 
 on_name-syntax : (goes : Name → Progress) (o : Option Name) (why : Stop) → on_name goes o ≡ Err why → why ≡ stop.Syntax
 on_name-syntax goes None why h = sym (err_is stop.Syntax why h)
-on_name-syntax goes (Some n) why h = absurd (not_ok (goes n) why h)
+on_name-syntax goes (Some n) why h = absurd (ok_err (goes n) why h)
 
 on_given-syntax : (g : Giving) (b : Bool) (o : Option Name) (why : Stop)
     → (if b then Ok (Usage g) else on_name (λ r. RoleOf g r) o) ≡ Err why → why ≡ stop.Syntax
-on_given-syntax g true o why h = absurd (not_ok (Usage g) why h)
+on_given-syntax g true o why h = absurd (ok_err (Usage g) why h)
 on_given-syntax g false o why h = on_name-syntax (λ r. RoleOf g r) o why h
 
 some_name-syntax : (n : Name) (b : Bool) (o : Option Name) (why : Stop)
     → on_role_pool n (if b then Ok None else some_name o) ≡ Err why → why ≡ stop.Syntax
-some_name-syntax n true o why h = absurd (not_ok (Part true (statement.AlterRole n None)) why h)
+some_name-syntax n true o why h = absurd (ok_err (Part true (statement.AlterRole n None)) why h)
 some_name-syntax n false None why h = sym (err_is stop.Syntax why h)
-some_name-syntax n false (Some pool) why h = absurd (not_ok (Part true (statement.AlterRole n (Some pool))) why h)
+some_name-syntax n false (Some pool) why h = absurd (ok_err (Part true (statement.AlterRole n (Some pool))) why h)
 
 stranger-told : (b : Bool) (st : Statement) (ts : List Token) (word : List ℕ) (why : Stop) (takes : Bool) (affine : Bool)
     → IsBody b st ts → parameter_of st (Bare word) ≡ None → takes_any st ≡ takes → is_affinity (Bare word) ≡ affine
@@ -73,7 +69,7 @@ stranger-told b st ts word why true false body is takes affinity_is h =
 
 sign-syntax : (b ends : Bool) (st : Statement) (why : Stop) → (if b && ends then Ok (Ended st) else Err stop.Syntax) ≡ Err why
     → why ≡ stop.Syntax
-sign-syntax true true st why h = absurd (not_ok (Ended st) why h)
+sign-syntax true true st why h = absurd (ok_err (Ended st) why h)
 sign-syntax true false st why h = sym (err_is stop.Syntax why h)
 sign-syntax false ends st why h = sym (err_is stop.Syntax why h)
 
@@ -90,7 +86,7 @@ repeated-told : (b : Bool) (st : Statement) (ts : List Token) (t : Token) (p : P
     → (if twice then Err (stop.Repeated p) else Ok (keyed st p)) ≡ Err why → Told ts t why
 repeated-told b st ts t p why true twice body is h =
     inl (subst (λ s. Blames ts t s) (err_is (stop.Repeated p) why h) (repeated b st ts t p body is twice))
-repeated-told b st ts t p why false twice body is h = absurd (not_ok (keyed st p) why h)
+repeated-told b st ts t p why false twice body is h = absurd (ok_err (keyed st p) why h)
 
 parameter-told : (b : Bool) (st : Statement) (ts : List Token) (t : Token) (why : Stop) (o : Option Parameter)
     → parameter_of st t ≡ o → IsBody b st ts → on_parameter b st t o ≡ Err why → Told ts t why
@@ -107,7 +103,7 @@ is_syntax (stop.Range p) = inr (λ h. absurd cc)
 
 value-told : (st : Statement) (p : Parameter) (ts : List Token) (t : Token) (why : Stop) (r : Result Setting Stop)
     → value_of p t ≡ r → IsValueDue st p ts → on_value st p t r ≡ Err why → Told ts t why
-value-told st p ts t why (Ok x) is at h = absurd (not_ok (Part true (set st x)) why h)
+value-told st p ts t why (Ok x) is at h = absurd (ok_err (Part true (set st x)) why h)
 value-told st p ts t why (Err fault) is at h = minus-told (is_minus p t) h
   where
     blamed : (fault ≡ stop.Syntax) ⊎ (fault ≡ stop.Syntax → ⊥) → Told ts t fault
@@ -115,12 +111,12 @@ value-told st p ts t why (Err fault) is at h = minus-told (is_minus p t) h
     blamed (inr other) = inl (value st p ts t fault at is other)
 
     minus-told : (b : Bool) → (if b then Ok (MinusRead st) else Err fault) ≡ Err why → Told ts t why
-    minus-told true h = absurd (not_ok (MinusRead st) why h)
+    minus-told true h = absurd (ok_err (MinusRead st) why h)
     minus-told false h = subst (λ s. Told ts t s) (err_is fault why h) (blamed (is_syntax fault))
 
 negative-told : (st : Statement) (ts : List Token) (t : Token) (why : Stop) (r : Result ℤ Stop)
     → negative_of t ≡ r → IsMinusRead st ts → on_negative st r ≡ Err why → Told ts t why
-negative-told st ts t why (Ok n) is read h = absurd (not_ok (Part true (set st (setting.Priority n))) why h)
+negative-told st ts t why (Ok n) is read h = absurd (ok_err (Part true (set st (setting.Priority n))) why h)
 negative-told _ _ t why (Err fault) is (minus_read st ts at) h =
     subst (λ s. Told (ts ++ Sign symbol.Minus ∷ []) t s) (err_is fault why h) (blamed (is_syntax fault))
   where
@@ -165,10 +161,7 @@ not_minus p t why true is found other =
     let both = is_minus-eq p t is in
     let same : value_of p t ≡ Err stop.Syntax =
     ap (λ x. value_of x t) both.0 ∙ ap (λ x. value_of parameter.Priority x) both.1 in
-    absurd (other (same_fault why (sym found ∙ same)))
-  where
-    same_fault : (a : Stop) → ◌≡◌ {A = Result Setting Stop} (Err a) (Err stop.Syntax) → a ≡ stop.Syntax
-    same_fault a h = cc
+    absurd (other (err_is why stop.Syntax (sym found ∙ same)))
 not_minus p t why false is found other = is
 
 -- what is blamed stops the reading

@@ -11,9 +11,11 @@ use Rattle.pool_sql.specs.declared.setting.Setting.TheVariants as setting
 use Rattle.pool_sql.specs.declared.stop.Stop.{Stop}
 use Rattle.pool_sql.specs.Value.{value_of}
 use Rattle.pool_sql.specs.Machine.{Stepped, Edge, is_minus, on_key, on_negative, on_parameter, on_value, step}
-use Rattle.std.proofs.Common.{min, pos, neg_ℤ, lit<, lit≤}
+use Rattle.std.proofs.Common.{min, pos, nat_abs, neg_ℤ, lit<, lit≤}
+use Rattle.rm_base.specs.declared.limits.TheConstants.{CONCURRENCY_MOST, PRIORITY_MOST, SECOND_MS, SPAN_MOST, THRESHOLD_SECONDS_MOST}
 use Rattle.rm_words.specs.Token.{capped, most}
-use Rattle.pool_sql.specs.Parameter.{parameter_among, parameters}
+use Rattle.rm_base.specs.WellFormed.{parameters}
+use Rattle.pool_sql.specs.Parameter.{parameter_among}
 use Rattle.pool_sql.specs.Value.{as_setting, optional, signed, taken}
 use Rattle.pool_sql.proofs.Amounts.{within-capped, within-capped_one}
 
@@ -21,13 +23,13 @@ value-capped : (p : Parameter) (n : ℕ) → value_of p (Number (min n most)) �
 value-capped parameter.MemorySize n = refl
 value-capped parameter.MaxMemorySize n = refl
 value-capped parameter.MaxQueryMemorySize n = refl
-value-capped parameter.ExecutionParallelism n = ap (λ r. as_setting (λ x. setting.ExecutionParallelism x) (optional parameter.ExecutionParallelism false r)) (within-capped_one 1 1000 n most (lit< tt))
-value-capped parameter.Priority n = ap (λ r. as_setting (λ x. setting.Priority x) (signed parameter.Priority pos r)) (within-capped_one 0 100 n most (lit< tt))
+value-capped parameter.ExecutionParallelism n = ap (λ r. as_setting (λ x. setting.ExecutionParallelism x) (optional parameter.ExecutionParallelism false r)) (within-capped_one 1 CONCURRENCY_MOST n most (lit< tt))
+value-capped parameter.Priority n = ap (λ r. as_setting (λ x. setting.Priority x) (signed parameter.Priority pos r)) (within-capped_one 0 (nat_abs PRIORITY_MOST) n most (lit< tt))
 value-capped parameter.RuntimePriority n = refl
-value-capped parameter.RuntimePriorityThreshold n = ap (λ r. as_setting (λ x. setting.RuntimePriorityThreshold x) (taken parameter.RuntimePriorityThreshold r)) (within-capped_one 0 86400 n most (lit< tt))
-value-capped parameter.QueueTimeout n = ap (λ r. as_setting (λ x. setting.QueueTimeout x) (optional parameter.QueueTimeout false r)) (within-capped 0 31536000000 n 1000 most (lit≤ tt) (lit< tt))
-value-capped parameter.PlannedConcurrency n = ap (λ r. as_setting (λ x. setting.PlannedConcurrency x) (optional parameter.PlannedConcurrency false r)) (within-capped_one 1 1000 n most (lit< tt))
-value-capped parameter.MaxConcurrency n = ap (λ r. as_setting (λ x. setting.MaxConcurrency x) (optional parameter.MaxConcurrency false r)) (within-capped_one 1 1000 n most (lit< tt))
+value-capped parameter.RuntimePriorityThreshold n = ap (λ r. as_setting (λ x. setting.RuntimePriorityThreshold x) (taken parameter.RuntimePriorityThreshold r)) (within-capped_one 0 THRESHOLD_SECONDS_MOST n most (lit< tt))
+value-capped parameter.QueueTimeout n = ap (λ r. as_setting (λ x. setting.QueueTimeout x) (optional parameter.QueueTimeout false r)) (within-capped 0 SPAN_MOST n SECOND_MS most (lit≤ tt) (lit< tt))
+value-capped parameter.PlannedConcurrency n = ap (λ r. as_setting (λ x. setting.PlannedConcurrency x) (optional parameter.PlannedConcurrency false r)) (within-capped_one 1 CONCURRENCY_MOST n most (lit< tt))
+value-capped parameter.MaxConcurrency n = ap (λ r. as_setting (λ x. setting.MaxConcurrency x) (optional parameter.MaxConcurrency false r)) (within-capped_one 1 CONCURRENCY_MOST n most (lit< tt))
 value-capped parameter.RuntimeCap n = refl
 value-capped parameter.Cascade n = refl
 value-capped parameter.ResourcePool n = refl
@@ -52,10 +54,6 @@ minus-capped parameter.MemoryCap m n = refl
 number_names_none : (n : ℕ) (ps : List Parameter) → parameter_among ps (Number n) ≡ None
 number_names_none n [] = refl
 number_names_none n (p ∷ ps) = number_names_none n ps
-
-on_key-number : (es : List Edge) (m n : ℕ) → on_key es (Number m) ≡ on_key es (Number n)
-on_key-number [] m n = refl
-on_key-number (e ∷ es) m n = on_key-number es m n
 
 value_due-capped : (st : Statement) (p : Parameter) (m n : ℕ) (r : Result Setting Stop) → on_value st p (Number m) r ≡ on_value st p (Number n) r
 value_due-capped st p m n (Ok x) = refl
@@ -86,7 +84,7 @@ number-capped (UserPool st) n = refl
 number-capped (ValueDue st p) n =
     ap (λ r. on_value st p (Number (min n most)) r) (value-capped p n) ∙ value_due-capped st p (min n most) n (value_of p (Number n))
 number-capped (MinusRead st) n =
-    ap (λ r. on_negative st (signed parameter.Priority (λ x. neg_ℤ (pos x)) r)) (within-capped_one 0 100 n most (lit< tt))
+    ap (λ r. on_negative st (signed parameter.Priority (λ x. neg_ℤ (pos x)) r)) (within-capped_one 0 (nat_abs PRIORITY_MOST) n most (lit< tt))
 number-capped (Ended st) n = refl
 
 pub step-capped : (p : Progress) (t : Token) → step p (capped t) ≡ step p t

@@ -27,9 +27,10 @@ use Rattle.rm_words.specs.Token.{Says}
 use Rattle.rm_words.proofs.Printing.{number_says}
 use Rattle.pool_sql.specs.Grammar.{IsFront, Spells, bare, ended}
 use Rattle.pool_sql.specs.Machine.{onward, run}
-use Rattle.pool_sql.proofs.Means.{IsEnded, IsKeyed, IsMinusRead, Means, is_ended, minus_read, more-means, not_err, ok_is, path, role-means, set-means, step-means, usage-means}
+use Rattle.pool_sql.proofs.Means.{IsEnded, IsKeyed, IsMinusRead, Means, is_ended, minus_read, more-means, path, role-means, set-means, step-means, usage-means}
 use Rattle.pool_sql.proofs.Saying.{AllSay, AllSay-append, name-says}
 use Rattle.pool_sql.proofs.Complete.{run-after, run-append, spells-gives}
+use Rattle.pool_sql.proofs.Results.{some_is, none_some, ok_is, err_ok, true_false}
 
 -- what is read has its meaning
 means-turn : (p : Progress) (us : List Token) (t : Token) (ts : List Token) (q : Progress) (r : Stepped) → step p t ≡ r → Means p us
@@ -38,7 +39,7 @@ means-turn : (p : Progress) (us : List Token) (t : Token) (ts : List Token) (q :
     → Means q (us ++ t ∷ ts)
 means-turn p us t ts q (Ok s) is m h rest =
     subst (λ l. Means q l) (append_assoc us (t ∷ []) ts) (rest s (step-means p us t s m is) h)
-means-turn p us t ts q (Err why) is m h rest = absurd (not_err why q h)
+means-turn p us t ts q (Err why) is m h rest = absurd (err_ok why q h)
 
 run-means : (p : Progress) (us ts : List Token) (q : Progress) → Means p us → run p ts ≡ Ok q → Means q (us ++ ts)
 run-means p us [] q m h = subst (λ l. Means q l) (sym (append-nil us)) (subst (λ s. Means s us) (ok_is p q h) m)
@@ -46,12 +47,6 @@ run-means p us (t ∷ ts) q m h = means-turn p us t ts q (step p t) refl m h (λ
 
 pub sound : (ts : List Token) (q : Progress) → run Start ts ≡ Ok q → Means q ts
 sound ts q h = run-means Start [] ts q refl h
-
-none_some : (a : Statement) → ◌≡◌ {A = Option Statement} None (Some a) → ⊥
-none_some a h = cc
-
-some_is : (a b : Statement) → ◌≡◌ {A = Option Statement} (Some a) (Some b) → a ≡ b
-some_is a b h = cc
 
 pub finish-spells : (p : Progress) (ts : List Token) (st : Statement) → Means p ts → finish p ≡ Some st → Spells ts st
 finish-spells (Part true st) ts a m h = subst (λ x. Spells ts x) (some_is st a h) (bare st ts m)
@@ -148,9 +143,6 @@ alter_user-front n =
     shorter (path (NameDue verb.Alter kind.User) ++ name n ∷ []) (key (codes "MEMORYCAP") ∷ []) (codes "MEMORYCAP" ∷ []) (record { word = refl; token = refl }, tt)
     (due-front _ parameter.MemoryCap _
     (due false _ _ (key (codes "MEMORYCAP")) parameter.MemoryCap (alter_user n) refl refl))
-
-true_false : ◌≡◌ {A = Bool} true false → ⊥
-true_false h = cc
 
 begun-front : (b : Bool) (st : Statement) (ts : List Token) → b ≡ false → IsBody b st ts → SaidFront ts
 begun-front _ _ _ h (alter_pool n) = alter_pool-front n
@@ -269,7 +261,7 @@ read-front ts p h = let front = means-front p ts (sound ts p h) in (front.rest, 
 front-turn : (r : Stepped) (rest : List Token) (last : Progress) → onward r (λ q. run q rest) ≡ Ok last
     → (q : Progress) × (r ≡ Ok q)
 front-turn (Ok q) rest last h = (q, refl)
-front-turn (Err why) rest last h = absurd (not_err why last h)
+front-turn (Err why) rest last h = absurd (err_ok why last h)
 
 pub front-read : (ts : List Token) → IsFront ts → (q : Progress) × (run Start ts ≡ Ok q)
 front-read ts front =
@@ -286,7 +278,7 @@ pub stopped-no_front : (ts : List Token) (t : Token) (p : Progress) (why : Stop)
 stopped-no_front ts t p why h stops front =
     let read = front-read (ts ++ t ∷ []) front in
     let stopped : run Start (ts ++ t ∷ []) ≡ Err why = run-after ts (t ∷ []) p h ∙ ap (λ r. onward r (λ q. run q [])) stops in
-    not_err why read.0 (sym stopped ∙ read.1)
+    err_ok why read.0 (sym stopped ∙ read.1)
 
 -- what ends too early is no statement
 pub unfinished-none : (ts : List Token) (p : Progress) (st : Statement) → run Start ts ≡ Ok p → finish p ≡ None → Spells ts st → ⊥

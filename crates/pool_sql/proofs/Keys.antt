@@ -9,6 +9,3 @@ is_key-eq (Bare word) k h = ap (λ l. Bare l) ((bytes_eq-Decides word (folded k)
 is_key-eq (Number n) k h = absurd cc
 is_key-eq (Quoted text) k h = absurd cc
 is_key-eq (Sign s) k h = absurd cc
-
-pub is_key-key : (k : List ℕ) → is_key (key k) k ≡ true
-is_key-key k = (bytes_eq-Decides (folded k) (folded k)).1 refl

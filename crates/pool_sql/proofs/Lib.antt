@@ -1,3 +1,4 @@
+pub mod Results
 pub mod NameLemmas
 pub mod Keys
 pub mod Saying
@@ -9,7 +10,5 @@ pub mod Amounts
 pub mod Capped
 pub mod Readings
 pub mod Rights
-pub mod Ranges
-pub mod Results
 pub mod Prints
 pub mod Texts

@@ -22,12 +22,14 @@ use Rattle.pool_sql.specs.declared.stop.Stop.{Stop}
 use Rattle.pool_sql.specs.declared.stop.Stop.TheVariants as stop
 use Rattle.pool_sql.specs.Names.{name_of}
 use Rattle.pool_sql.specs.Parameter.{parameter_of, takes_any}
-use Rattle.pool_sql.specs.Setting.{is_named, set}
+use Rattle.rm_base.specs.WellFormed.{is_named}
+use Rattle.pool_sql.specs.Setting.{set}
 use Rattle.pool_sql.specs.Value.{negative_of, optional_name, value_of}
 use Rattle.pool_sql.specs.Grammar.{IsBody, create_pool, alter_pool, drop_pool, create_user, alter_user, drop_user, create_role, alter_role, drop_role, grant_usage, revoke_usage, grant_role, revoke_role, named, IsValue, one, minus, IsValueDue, due, key, name, more_keys}
 use Rattle.pool_sql.specs.Machine.{Stepped, Edge, begun, edges, is_minus, is_semicolon, keyed, on_key, on_name, on_negative, on_other, on_parameter, on_role_pool, on_value, role_given, step, stranger, to_key, usage_given}
 use Rattle.pool_sql.proofs.Keys.{is_key-eq}
 use Rattle.pool_sql.proofs.NameLemmas.{name_of-eq}
+use Rattle.pool_sql.proofs.Results.{ok_is, err_ok}
 
 abbrev pub verb_key : Verb → List ℕ
 verb_key verb.Create = codes "CREATE"
@@ -85,12 +87,6 @@ Means (MinusRead st) ts = IsMinusRead st ts
 Means (Ended st) ts = IsEnded st ts
 Means p ts = ts ≡ path p
 
-pub ok_is : (p q : Progress) → (let r : Stepped = Ok p in let s : Stepped = Ok q in r ≡ s) → p ≡ q
-ok_is p q h = cc
-
-pub not_err : (why : Stop) (q : Progress) → (let r : Stepped = Err why in let s : Stepped = Ok q in r ≡ s) → ⊥
-not_err why q h = cc
-
 -- each of the key words leads to what the words then are
 abbrev Leads : List Token → List Edge → Type 0
 Leads front [] = Unit {0}
@@ -106,13 +102,13 @@ key-turn front k r es t q false is h leads rest = rest h
 
 on_key-means : (front : List Token) (es : List Edge) (t : Token) (q : Progress) → on_key es t ≡ Ok q → Leads front es
     → Means q (front ++ t ∷ [])
-on_key-means front [] t q h leads = absurd (not_err stop.Syntax q h)
+on_key-means front [] t q h leads = absurd (err_ok stop.Syntax q h)
 on_key-means front (e ∷ es) t q h leads =
     key-turn front e.0 e.1 es t q (is_key t e.0) refl h leads.0 (λ rest. on_key-means front es t q rest leads.1)
 
 name-turn : (front : List Token) (goes : Name → Progress) (t : Token) (q : Progress) (o : Option Name)
     → name_of t ≡ o → on_name goes o ≡ Ok q → ((n : Name) → Means (goes n) (front ++ name n ∷ [])) → Means q (front ++ t ∷ [])
-name-turn front goes t q None is h leads = absurd (not_err stop.Syntax q h)
+name-turn front goes t q None is h leads = absurd (err_ok stop.Syntax q h)
 name-turn front goes t q (Some n) is h leads =
     subst (λ x. Means q (front ++ x ∷ [])) (sym (name_of-eq t n is))
     (subst (λ s. Means s (front ++ name n ∷ [])) (ok_is (goes n) q h) (leads n))
@@ -151,7 +147,7 @@ role_pool-turn : (n : Name) (t : Token) (q : Progress) (r : Result (Option Name)
     → on_role_pool n r ≡ Ok q → Means q (path (RolePool n) ++ t ∷ [])
 role_pool-turn n t q (Ok pool) is h =
     subst (λ s. Means s (path (RolePool n) ++ t ∷ [])) (ok_is (Part true (statement.AlterRole n pool)) q h) (alter_role n pool t is)
-role_pool-turn n t q (Err why) is h = absurd (not_err why q h)
+role_pool-turn n t q (Err why) is h = absurd (err_ok why q h)
 
 keyed-means : (b : Bool) (st : Statement) (ts : List Token) (t : Token) (p : Parameter) → IsBody b st ts
     → parameter_of st t ≡ Some p → is_named p st ≡ false → Means (keyed st p) (ts ++ t ∷ [])
@@ -190,20 +186,20 @@ sign-turn : (b : Bool) (st : Statement) (ts : List Token) (s : Symbol) (q : Prog
 sign-turn true st ts s q true is body h =
     subst (λ x. Means q (ts ++ Sign x ∷ [])) (sym (semicolon_is s is))
     (subst (λ r. Means r (ts ++ Sign symbol.Semicolon ∷ [])) (ok_is (Ended st) q h) (is_ended st ts body))
-sign-turn true st ts s q false is body h = absurd (not_err stop.Syntax q h)
-sign-turn false st ts s q ends is body h = absurd (not_err stop.Syntax q h)
+sign-turn true st ts s q false is body h = absurd (err_ok stop.Syntax q h)
+sign-turn false st ts s q ends is body h = absurd (err_ok stop.Syntax q h)
 
 other-means : (b : Bool) (st : Statement) (ts : List Token) (t : Token) (q : Progress) → IsBody b st ts
     → on_other b st t ≡ Ok q → Means q (ts ++ t ∷ [])
-other-means b st ts (Bare word) q body h = absurd (not_err (stranger (takes_any st) (Bare word)) q h)
-other-means b st ts (Number n) q body h = absurd (not_err stop.Syntax q h)
-other-means b st ts (Quoted text) q body h = absurd (not_err stop.Syntax q h)
+other-means b st ts (Bare word) q body h = absurd (err_ok (stranger (takes_any st) (Bare word)) q h)
+other-means b st ts (Number n) q body h = absurd (err_ok stop.Syntax q h)
+other-means b st ts (Quoted text) q body h = absurd (err_ok stop.Syntax q h)
 other-means b st ts (Sign s) q body h = sign-turn b st ts s q (is_semicolon s) refl body h
 
 repeated-turn : (b : Bool) (st : Statement) (ts : List Token) (t : Token) (p : Parameter) (q : Progress) (twice : Bool)
     → is_named p st ≡ twice → IsBody b st ts → parameter_of st t ≡ Some p
     → (if twice then Err (stop.Repeated p) else Ok (keyed st p)) ≡ Ok q → Means q (ts ++ t ∷ [])
-repeated-turn b st ts t p q true twice body is h = absurd (not_err (stop.Repeated p) q h)
+repeated-turn b st ts t p q true twice body is h = absurd (err_ok (stop.Repeated p) q h)
 repeated-turn b st ts t p q false twice body is h =
     subst (λ r. Means r (ts ++ t ∷ [])) (ok_is (keyed st p) q h) (keyed-means b st ts t p body is twice)
 
@@ -258,7 +254,7 @@ minus-turn st p ts t q why true is at h =
     subst (λ x. Means q (ts ++ x ∷ [])) (sym both.1)
     (subst (λ r. Means r (ts ++ Sign symbol.Minus ∷ [])) (ok_is (MinusRead st) q h)
     (minus_read st ts (subst (λ x. IsValueDue st x ts) both.0 at)))
-minus-turn st p ts t q why false is at h = absurd (not_err why q h)
+minus-turn st p ts t q why false is at h = absurd (err_ok why q h)
 
 pub set-means : (st : Statement) (p : Parameter) (ts vs : List Token) (x : Setting) → IsValueDue st p ts → IsValue p x vs
     → IsBody true (set st x) (ts ++ vs)
@@ -276,7 +272,7 @@ negative-turn _ _ t q (Ok n) is (minus_read st ts at) h =
     subst (λ s. Means s ((ts ++ Sign symbol.Minus ∷ []) ++ t ∷ [])) (ok_is (Part true (set st (setting.Priority n))) q h)
     (subst (λ l. IsBody true (set st (setting.Priority n)) l) (sym (append_assoc ts (Sign symbol.Minus ∷ []) (t ∷ [])))
     (set-means st parameter.Priority ts (Sign symbol.Minus ∷ t ∷ []) (setting.Priority n) at (minus n t is)))
-negative-turn st ts t q (Err why) is read h = absurd (not_err why q h)
+negative-turn st ts t q (Err why) is read h = absurd (err_ok why q h)
 
 -- a step keeps what the words are
 pub step-means : (p : Progress) (ts : List Token) (t : Token) (q : Progress) → Means p ts → step p t ≡ Ok q → Means q (ts ++ t ∷ [])
@@ -321,4 +317,4 @@ step-means (UserPool st) ts t q m h =
     on_key-means ts (edges (UserPool st)) t q h (more-means st parameter.ResourcePool (codes "POOL") ts refl m, tt)
 step-means (ValueDue st p) ts t q m h = value-turn st p ts t q (value_of p t) refl m h
 step-means (MinusRead st) ts t q m h = negative-turn st ts t q (negative_of t) refl m h
-step-means (Ended st) ts t q m h = absurd (not_err stop.Syntax q h)
+step-means (Ended st) ts t q m h = absurd (err_ok stop.Syntax q h)

@@ -1,5 +1,5 @@
 -- a right statement's printed text is spelled as it
-use Rattle.std.proofs.Common.{◌≡◌, ℕ, ℤ, suc, pos, negsuc, neg_ℤ, ◌+◌, ◌*◌, ◌/◌, ◌<◌, ◌^◌, nat_le, Bool, true, false, ◌&&◌, ◌==◌, if◌then◌else◌, inl, inr, Option, Some, None, IfSome, option_map, Result, Ok, Err, List, [], ◌∷◌, ◌++◌, length, take, drop, refl, sym, ◌∙◌, ap, subst, arith, lit<, codes, append_assoc, append-nil}
+use Rattle.std.proofs.Common.{◌≡◌, ℕ, ℤ, suc, pos, negsuc, nat_abs, neg_ℤ, ◌+◌, ◌*◌, ◌/◌, ◌<◌, ◌^◌, nat_le, Bool, true, false, ◌&&◌, ◌==◌, if◌then◌else◌, inl, inr, Option, Some, None, IfSome, option_map, Result, Ok, Err, List, [], ◌∷◌, ◌++◌, length, take, drop, refl, sym, ◌∙◌, ap, subst, arith, lit<, codes, append_assoc, append-nil}
 use Rattle.std.specs.Char.{digit_value}
 use Rattle.std.specs.Int.{IsInRange}
 use Rattle.std.specs.Fmt.{decimal}
@@ -9,7 +9,7 @@ use Rattle.std.proofs.lemmas.Bool.{le-leb, ne_eqb, or_cases}
 use Rattle.std.proofs.lemmas.Bool.Decides.{nat_tests}
 use Rattle.std.proofs.lemmas.Fmt.{decimal_is_IsNumeral}
 use Rattle.std.proofs.Math.Seq.{take-append_seam}
-use Rattle.rm_base.specs.declared.limits.TheConstants.{CONCURRENCY_MOST, MEMORY_MOST, SPAN_MOST, THRESHOLD_SECONDS_MOST}
+use Rattle.rm_base.specs.declared.limits.TheConstants.{CONCURRENCY_MOST, KIBI, MEMORY_MOST, PERCENT_MOST, PRIORITY_MOST, SPAN_MOST, THRESHOLD_SECONDS_MOST}
 use Rattle.rm_base.specs.declared.name.Name.{Name}
 use Rattle.rm_base.specs.declared.refusal.Parameter.{Parameter}
 use Rattle.rm_base.specs.declared.refusal.Parameter.TheVariants as parameter
@@ -35,19 +35,20 @@ use Rattle.pool_sql.specs.declared.setting.Setting.{Setting}
 use Rattle.pool_sql.specs.declared.setting.Setting.TheVariants as setting
 use Rattle.pool_sql.specs.declared.stop.Fault.TheVariants.{Form, Outside}
 use Rattle.pool_sql.specs.declared.stop.Stop.{Stop}
-use Rattle.pool_sql.specs.Amount.{bytes, digit_count, front_number, number_of, percent, size_in, size_of, span_in, span_of, unit_of, within}
+use Rattle.pool_sql.specs.Amount.{bytes, digit_count, front_number, number_between, percent, size_in, size_of, span_in, span_of, behind_digits, within}
 use Rattle.pool_sql.specs.Grammar.{IsBody, create_pool, alter_pool, drop_pool, create_user, alter_user, drop_user, create_role, alter_role, drop_role, grant_usage, revoke_usage, grant_role, revoke_role, named, IsValue, one, minus, bare, key, more_keys, name}
 use Rattle.pool_sql.specs.Names.{name_called, name_of}
-use Rattle.pool_sql.specs.Parameter.{parameter_among, parameter_of, pool_parameters, user_parameters}
+use Rattle.rm_base.specs.WellFormed.{IsBetween, IsOptionalBetween, IsOptionalSize, IsPriority, IsRightPool, IsRightUser, IsSize, IsWellFormed, is_named, is_named_pool, is_named_user, pool_parameters, user_parameters}
+use Rattle.pool_sql.specs.Parameter.{parameter_among, parameter_of}
 use Rattle.pool_sql.specs.Printed.{keys_text, parameter_named, pool_settings, priority_value, setting_text, settings_text, statement_text, user_settings, value_in, value_or, value_text}
-use Rattle.pool_sql.specs.Right.{IsBetween, IsOptionalBetween, IsOptionalSize, IsPriority, IsRight, IsRightPool, IsRightUser, IsSize}
-use Rattle.pool_sql.specs.Setting.{is_named, is_named_pool, is_named_user, no_pool_change, no_user_change, set, set_pool, set_user}
+use Rattle.pool_sql.specs.Setting.{no_pool_change, no_user_change, set, set_pool, set_user}
 use Rattle.pool_sql.specs.Text.{SpellsText}
 use Rattle.pool_sql.specs.Value.{as_setting, is_default, is_none, optional, optional_name, signed, some_name, taken, value_of}
 use Rattle.pool_sql.proofs.Keys.{is_key-eq}
 use Rattle.pool_sql.proofs.NameLemmas.{name_called-none, name_called-text}
 use Rattle.pool_sql.proofs.Rights.{IsRightValue}
 use Rattle.pool_sql.proofs.Saying.{AllSay, AllSay-append, name-says, said-spells}
+use Rattle.pool_sql.proofs.Results.{none_some, true_false}
 
 -- words behind a first one, each behind a blank
 abbrev pub spaced : List (List ℕ) → List ℕ
@@ -103,13 +104,13 @@ amount-says n unit small plain =
 
 -- what the number and the unit are read as
 amount-read : {R : Type 0} (f : ℕ → List ℕ → R) (none : R) (n : ℕ) (c : ℕ) (cs : List ℕ) → n < 2 ^ 64 → is_digit (class_of c) ≡ false
-    → (let text : List ℕ = decimal n ++ c ∷ cs in (if digit_count text == 0 then none else f (front_number text) (unit_of text)) ≡ f n (c ∷ cs))
+    → (let text : List ℕ = decimal n ++ c ∷ cs in (if digit_count text == 0 then none else f (front_number text) (behind_digits text)) ≡ f n (c ∷ cs))
 amount-read f none n c cs small other =
     let numeral = decimal_is_IsNumeral n small in
     let text : List ℕ = decimal n ++ c ∷ cs in
     let count : digit_count text ≡ length (decimal n) = digit_count-front (decimal n) c cs numeral.0.1 other in
     let some : digit_count text ≡ 0 → ⊥ = λ e. omega (arith, numeral.0.0) in
-    ap (λ b. if b then none else f (front_number text) (unit_of text)) (ne_eqb (digit_count text) 0 some)
+    ap (λ b. if b then none else f (front_number text) (behind_digits text)) (ne_eqb (digit_count text) 0 some)
     ∙ ap (λ k. f (digits_value 10 (take k text)) (drop k text)) count
     ∙ ap (λ l. f (digits_value 10 l) (drop (length (decimal n)) text)) (take-append_seam (decimal n) (c ∷ cs))
     ∙ ap (λ l. f (digits_value 10 (decimal n)) l) (drop-append_seam (decimal n) (c ∷ cs))
@@ -146,22 +147,22 @@ record SizeSaid (s : Size) : Type 0 where
 
 size-said : (s : Size) → IsSize s → SizeSaid s
 size-said (Bytes n) h =
-    let kibi : n / 1024 ≡ h.0 = ap (λ m. m / 1024) h.1 ∙ mul-div_cancel h.0 (lit< tt) in
-    let small : n / 1024 < 2 ^ 64 = omega (arith, h.1, h.2, kibi) in
-    let whole : n / 1024 * 1024 ≡ n = ap (λ m. m * 1024) kibi ∙ sym h.1 in
+    let kibi : n / KIBI ≡ h.0 = ap (λ m. m / KIBI) h.1 ∙ mul-div_cancel h.0 (lit< tt) in
+    let small : n / KIBI < 2 ^ 64 = omega (arith, h.1, h.2, kibi) in
+    let whole : n / KIBI * KIBI ≡ n = ap (λ m. m * KIBI) kibi ∙ sym h.1 in
     record {
-      token = Quoted (decimal (n / 1024) ++ codes "K");
+      token = Quoted (decimal (n / KIBI) ++ codes "K");
       reads =
-          amount-read size_in (Err Form) (n / 1024) 75 [] small refl
+          amount-read size_in (Err Form) (n / KIBI) 75 [] small refl
           ∙ ap bytes (ap (λ m. within 0 MEMORY_MOST m) whole ∙ within-is 0 MEMORY_MOST n (omega arith, h.2));
-      says = amount-says (n / 1024) (codes "K") small refl;
+      says = amount-says (n / KIBI) (codes "K") small refl;
       is_quoted = (_, refl);
     }
 size-said (Percent n) h =
     let small : n < 2 ^ 64 = omega (arith, h) in
     record {
       token = Quoted (decimal n ++ codes "%");
-      reads = amount-read size_in (Err Form) n 37 [] small refl ∙ ap percent (within-is 0 100 n (omega arith, h));
+      reads = amount-read size_in (Err Form) n 37 [] small refl ∙ ap percent (within-is 0 PERCENT_MOST n (omega arith, h));
       says = amount-says n (codes "%") small refl;
       is_quoted = (_, refl);
     }
@@ -200,13 +201,13 @@ level-said High = said_one parameter.RuntimePriority _ (value.OfLevel High) (key
 priority-said : (z : ℤ) → IsPriority z → Said parameter.Priority (setting.Priority z) (priority_value z)
 priority-said (pos n) h =
     number-said parameter.Priority (setting.Priority (pos n)) n
-    (ap (λ r. as_setting (λ y. setting.Priority y) (signed parameter.Priority pos r)) (within-is 0 100 n (omega arith, h)))
+    (ap (λ r. as_setting (λ y. setting.Priority y) (signed parameter.Priority pos r)) (within-is 0 (nat_abs PRIORITY_MOST) n (omega arith, h)))
     (omega (arith, h))
 priority-said (negsuc n) h = record {
   tokens = Sign Minus ∷ Number (n + 1) ∷ [];
   words = codes "-" ∷ decimal (n + 1) ∷ [];
   is = minus (negsuc n) (Number (n + 1))
-      (ap (λ r. signed parameter.Priority (λ m. neg_ℤ (pos m)) r) (within-is 0 100 (n + 1) (omega arith, h))
+      (ap (λ r. signed parameter.Priority (λ m. neg_ℤ (pos m)) r) (within-is 0 (nat_abs PRIORITY_MOST) (n + 1) (omega arith, h))
       ∙ ap (λ m. let r : Result ℤ Stop = Ok (neg_ℤ (pos m)) in r) (plus_one n));
   says = (record { word = refl; token = refl }, (number_says (n + 1) (omega (arith, h)), tt));
   spaces = ap (λ l. codes " - " ++ l) (append-nil (decimal (n + 1)));
@@ -217,9 +218,6 @@ reserved-no_name : (n : Name) (text : List ℕ) → name_called (folded text) �
 reserved-no_name n text none is =
     let same = is_key-eq (name n) text is in
     none_some n (sym none ∙ ap name_of (sym same) ∙ name_called-text n)
-  where
-    none_some : (a : Name) → ◌≡◌ {A = Option Name} None (Some a) → ⊥
-    none_some a h = cc
 
 none-no_name : (n : Name) → is_none (name n) ≡ true → ⊥
 none-no_name n h = elim (or_cases (is_key (name n) (codes "NONE")) (is_default (name n)) h) [
@@ -258,7 +256,7 @@ span-value p variant least n h reads =
     (span-says n small)
 
 number-value : (p : Parameter) (variant : Option ℕ → Setting) (n : ℕ) → IsBetween 1 CONCURRENCY_MOST n
-    → value_of p (Number n) ≡ as_setting variant (optional p false (number_of 1 CONCURRENCY_MOST (Number n)))
+    → value_of p (Number n) ≡ as_setting variant (optional p false (number_between 1 CONCURRENCY_MOST (Number n)))
     → Said p (variant (Some n)) (value.Number n)
 number-value p variant n h reads =
     number-said p (variant (Some n)) n
@@ -653,7 +651,7 @@ alter_role-prints n pool =
     }
 
 -- each right statement is printed
-statement-prints : (st : Statement) → IsRight st → Prints st (statement_text st)
+statement-prints : (st : Statement) → IsWellFormed st → Prints st (statement_text st)
 statement-prints (statement.CreatePool n c) right =
     pool-prints (λ d. statement.CreatePool n d) c (codes "CREATE RESOURCE POOL " ++ name_text n)
     (record { sets = λ d x. refl; takes = λ d t. refl; names = λ d p. refl }) right (create_pool-prints n)
@@ -677,10 +675,7 @@ statement-prints (statement.GrantRole r u) right = grant_role-prints r u
 statement-prints (statement.RevokeRole r u) right = revoke_role-prints r u
 
 -- an ALTER without a parameter is not right
-true_false : ◌≡◌ {A = Bool} true false → ⊥
-true_false h = cc
-
-begun-wrong : (b : Bool) (st : Statement) (ts : List Token) → b ≡ false → IsBody b st ts → IsRight st → ⊥
+begun-wrong : (b : Bool) (st : Statement) (ts : List Token) → b ≡ false → IsBody b st ts → IsWellFormed st → ⊥
 begun-wrong _ _ _ h (alter_pool n) right = true_false (sym right.1)
 begun-wrong _ _ _ h (alter_user n) right = true_false (sym right.1)
 begun-wrong _ _ _ h (create_pool n) right = absurd (true_false h)
@@ -696,13 +691,13 @@ begun-wrong _ _ _ h (grant_role r u) right = absurd (true_false h)
 begun-wrong _ _ _ h (revoke_role r u) right = absurd (true_false h)
 begun-wrong _ _ _ h (named b st ts t p x vs body is fresh value) right = absurd (true_false h)
 
-whole-body : (b : Bool) (st : Statement) (ts : List Token) → IsBody b st ts → IsRight st → IsBody true st ts
+whole-body : (b : Bool) (st : Statement) (ts : List Token) → IsBody b st ts → IsWellFormed st → IsBody true st ts
 whole-body true st ts body right = body
 whole-body false st ts body right = absurd (begun-wrong false st ts refl body right)
 
 -- the printed text of a right statement is spelled as it
-pub right-spells : (st : Statement) → IsRight st → SpellsText (statement_text st) st
-right-spells st right =
+pub well_formed-spells : (st : Statement) → IsWellFormed st → SpellsText (statement_text st) st
+well_formed-spells st right =
     let prints = statement-prints st right in
     subst (λ text. SpellsText text st) (joined-spaced prints.first prints.rest ∙ prints.spaces)
     (said-spells st (prints.first ∷ prints.rest) prints.tokens

@@ -18,6 +18,7 @@ use Rattle.pool_sql.proofs.Complete.{run-after}
 use Rattle.pool_sql.proofs.Fronts.{finish-spells, read-front, sound, stopped-no_front, unfinished-none}
 use Rattle.pool_sql.proofs.Blamed.{stopped-why}
 use Rattle.pool_sql.proofs.Capped.{step-capped}
+use Rattle.pool_sql.proofs.Results.{ok_is, err_is, err_ok}
 
 abbrev Read : Type 0
 Read = Result Statement Refusal
@@ -32,15 +33,6 @@ run-more text front span p q h steps =
     ap (run Start) (tokens-snoc text front span)
     ∙ run-after (tokens_in text front) (token_in text span ∷ []) p h
     ∙ ap (λ r. onward r (λ s. run s [])) steps
-
-ok_is : (a b : Statement) → (let x : Read = Ok a in let y : Read = Ok b in x ≡ y) → a ≡ b
-ok_is a b h = cc
-
-err_is : (a b : Refusal) → (let x : Read = Err a in let y : Read = Err b in x ≡ y) → a ≡ b
-err_is a b h = cc
-
-err_ok : (a : Refusal) (b : Statement) → (let x : Read = Err a in let y : Read = Ok b in x ≡ y) → ⊥
-err_ok a b h = cc
 
 -- what is read
 record Spelled (text : List ℕ) (spans : List Span) (stuck : Option ℕ) (st : Statement) : Type 0 where

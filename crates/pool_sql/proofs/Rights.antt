@@ -1,10 +1,10 @@
 -- what is spelled is right: its values are in their ranges
-use Rattle.std.proofs.Common.{◌≡◌, ℕ, ℤ, zero, suc, pos, neg_ℤ, ◌*◌, ◌≤◌, nat_le, Bool, true, false, ◌&&◌, ◌||◌, ◌==◌, if◌then◌else◌, Option, Some, None, IfSome, find, Result, Ok, Err, List, [], ◌∷◌, refl, sym, ◌∙◌, ap, subst, arith, lit≤, codes}
+use Rattle.std.proofs.Common.{◌≡◌, ℕ, ℤ, zero, suc, pos, nat_abs, neg_ℤ, ◌*◌, ◌≤◌, nat_le, Bool, true, false, ◌&&◌, ◌||◌, ◌==◌, if◌then◌else◌, Option, Some, None, IfSome, find, Result, Ok, Err, List, [], ◌∷◌, refl, sym, ◌∙◌, ap, subst, arith, lit≤, codes}
 use Rattle.std.proofs.Math.Nat.{mul_assoc}
 use Rattle.std.specs.Char.{to_ascii_lowercase}
 use Rattle.std.specs.List.{list_any, list_all}
 use Rattle.std.proofs.lemmas.Bool.{leb-true, and_parts}
-use Rattle.rm_base.specs.declared.limits.TheConstants.{CONCURRENCY_MOST, MEMORY_MOST, SPAN_MOST, THRESHOLD_SECONDS_MOST}
+use Rattle.rm_base.specs.declared.limits.TheConstants.{CONCURRENCY_MOST, GIBI, KIBI, MEBI, MEMORY_MOST, PERCENT_MOST, PRIORITY_MOST, SECOND_MS, SPAN_MOST, TEBI, THRESHOLD_SECONDS_MOST}
 use Rattle.rm_base.specs.declared.refusal.Parameter.{Parameter}
 use Rattle.rm_base.specs.declared.refusal.Parameter.TheVariants as parameter
 use Rattle.rm_base.specs.declared.statement.PoolChange.{PoolChange}
@@ -21,19 +21,14 @@ use Rattle.pool_sql.specs.declared.stop.Fault.{Fault}
 use Rattle.pool_sql.specs.declared.stop.Fault.TheVariants.{Form, Outside}
 use Rattle.pool_sql.specs.declared.stop.Stop.{Stop}
 use Rattle.pool_sql.specs.declared.stop.Stop.TheVariants as stop
-use Rattle.pool_sql.specs.Amount.{bytes, bytes_in, digit_count, front_number, ms_in, number_of, percent, percent_in, size_in, size_of, span_in, span_of, timeout_of, unit_bytes, unit_ms, unit_of, within}
+use Rattle.pool_sql.specs.Amount.{bytes, bytes_in, digit_count, front_number, ms_in, number_between, percent, percent_in, size_in, size_of, span_in, span_of, timeout_of, unit_bytes, unit_ms, behind_digits, within}
 use Rattle.pool_sql.specs.Grammar.{IsBody, create_pool, alter_pool, drop_pool, create_user, alter_user, drop_user, create_role, alter_role, drop_role, grant_usage, revoke_usage, grant_role, revoke_role, named, IsValue, one, minus, Spells, bare, ended}
-use Rattle.pool_sql.specs.Parameter.{parameter_of, pool_parameters, user_parameters}
+use Rattle.rm_base.specs.WellFormed.{IsBetween, IsOptionalBetween, IsOptionalSize, IsPriority, IsRightPool, IsRightUser, IsSize, IsWellFormed, is_named_pool, is_named_user, names_any, pool_parameters, user_parameters}
+use Rattle.pool_sql.specs.Parameter.{parameter_of}
 use Rattle.pool_sql.specs.Printed.{parameter_named}
-use Rattle.pool_sql.specs.Right.{IsBetween, IsOptionalBetween, IsOptionalSize, IsPriority, IsRight, IsRightPool, IsRightUser, IsSize, names_any}
-use Rattle.pool_sql.specs.Setting.{is_named_pool, is_named_user, no_pool_change, no_user_change, set, set_pool, set_user}
+use Rattle.pool_sql.specs.Setting.{no_pool_change, no_user_change, set, set_pool, set_user}
 use Rattle.pool_sql.specs.Value.{as_setting, defaults, is_auto, is_default, is_none, level_of, memory_size_of, optional, optional_name, optional_size, parallelism_of, priority_of, queue_timeout_of, runtime_cap_of, signed, taken, threshold_of, unless_default, value_of}
-
-ok_is : {E T : Type 0} (a b : T) → ◌≡◌ {A = Result T E} (Ok a) (Ok b) → a ≡ b
-ok_is a b h = cc
-
-err_ok : {E T : Type 0} (e : E) (b : T) → ◌≡◌ {A = Result T E} (Err e) (Ok b) → ⊥
-err_ok e b h = cc
+use Rattle.pool_sql.proofs.Results.{some_is, none_some, ok_is, err_ok, true_false}
 
 -- the value of a setting is one of those that can be written
 abbrev pub IsRightValue : Setting → Type 0
@@ -62,40 +57,34 @@ within-ok least top n m h = turn (nat_le least n && nat_le n top) refl h
         (same, (subst (λ x. least ≤ x) same (leb-true least n parts.0), subst (λ x. x ≤ top) same (leb-true n top parts.1)))
     turn false is e = absurd (err_ok Outside m e)
 
-number_of-ok : (least top : ℕ) (t : Token) (m : ℕ) → number_of least top t ≡ Ok m → IsBetween least top m
-number_of-ok least top (Number n) m h = (within-ok least top n m h).1
-number_of-ok least top (Bare word) m h = absurd (err_ok Form m h)
-number_of-ok least top (Quoted text) m h = absurd (err_ok Form m h)
-number_of-ok least top (Sign s) m h = absurd (err_ok Form m h)
-
-some_is : (a b : ℕ) → ◌≡◌ {A = Option ℕ} (Some a) (Some b) → a ≡ b
-some_is a b h = cc
-
-none_some : (a : ℕ) → ◌≡◌ {A = Option ℕ} None (Some a) → ⊥
-none_some a h = cc
+number_between-ok : (least top : ℕ) (t : Token) (m : ℕ) → number_between least top t ≡ Ok m → IsBetween least top m
+number_between-ok least top (Number n) m h = (within-ok least top n m h).1
+number_between-ok least top (Bare word) m h = absurd (err_ok Form m h)
+number_between-ok least top (Quoted text) m h = absurd (err_ok Form m h)
+number_between-ok least top (Sign s) m h = absurd (err_ok Form m h)
 
 -- each unit of sizes is so many KiB
 kibi_units : (k m g t : Bool) (unit : ℕ)
-    → (if k then Some 1024 else (if m then Some 1048576 else (if g then Some 1073741824 else (if t then Some 1099511627776 else None)))) ≡ Some unit
-    → (kibi : ℕ) × (unit ≡ kibi * 1024)
-kibi_units true m g t unit h = (1, sym (some_is 1024 unit h))
-kibi_units false true g t unit h = (1024, sym (some_is 1048576 unit h))
-kibi_units false false true t unit h = (1048576, sym (some_is 1073741824 unit h))
-kibi_units false false false true unit h = (1073741824, sym (some_is 1099511627776 unit h))
+    → (if k then Some KIBI else (if m then Some MEBI else (if g then Some GIBI else (if t then Some TEBI else None)))) ≡ Some unit
+    → (kibi : ℕ) × (unit ≡ kibi * KIBI)
+kibi_units true m g t unit h = (1, sym (some_is KIBI unit h))
+kibi_units false true g t unit h = (KIBI, sym (some_is MEBI unit h))
+kibi_units false false true t unit h = (MEBI, sym (some_is GIBI unit h))
+kibi_units false false false true unit h = (GIBI, sym (some_is TEBI unit h))
 kibi_units false false false false unit h = absurd (none_some unit h)
 
-percent-size : (n : ℕ) (r : Result ℕ Fault) (s : Size) → within 0 100 n ≡ r → percent r ≡ Ok s → IsSize s
-percent-size n (Ok m) s is h = subst IsSize (ok_is (Percent m) s h) (within-ok 0 100 n m is).1.1
+percent-size : (n : ℕ) (r : Result ℕ Fault) (s : Size) → within 0 PERCENT_MOST n ≡ r → percent r ≡ Ok s → IsSize s
+percent-size n (Ok m) s is h = subst IsSize (ok_is (Percent m) s h) (within-ok 0 PERCENT_MOST n m is).1.1
 percent-size n (Err fault) s is h = absurd (err_ok fault s h)
 
-bytes-size : (n unit kibi : ℕ) (r : Result ℕ Fault) (s : Size) → unit ≡ kibi * 1024 → within 0 MEMORY_MOST (n * unit) ≡ r → bytes r ≡ Ok s → IsSize s
+bytes-size : (n unit kibi : ℕ) (r : Result ℕ Fault) (s : Size) → unit ≡ kibi * KIBI → within 0 MEMORY_MOST (n * unit) ≡ r → bytes r ≡ Ok s → IsSize s
 bytes-size n unit kibi (Ok m) s whole is h =
     let found = within-ok 0 MEMORY_MOST (n * unit) m is in
     subst IsSize (ok_is (Bytes m) s h)
-    (n * kibi, sym found.0 ∙ ap (λ u. n * u) whole ∙ sym (mul_assoc n kibi 1024), found.1.1)
+    (n * kibi, sym found.0 ∙ ap (λ u. n * u) whole ∙ sym (mul_assoc n kibi KIBI), found.1.1)
 bytes-size n unit kibi (Err fault) s whole is h = absurd (err_ok fault s h)
 
-bytes_in-size : (n : ℕ) (o : Option ℕ) (s : Size) → ((unit : ℕ) → o ≡ Some unit → (kibi : ℕ) × (unit ≡ kibi * 1024)) → bytes_in n o ≡ Ok s → IsSize s
+bytes_in-size : (n : ℕ) (o : Option ℕ) (s : Size) → ((unit : ℕ) → o ≡ Some unit → (kibi : ℕ) × (unit ≡ kibi * KIBI)) → bytes_in n o ≡ Ok s → IsSize s
 bytes_in-size n None s units h = absurd (err_ok Form s h)
 bytes_in-size n (Some unit) s units h =
     let whole = units unit refl in bytes-size n unit whole.0 (within 0 MEMORY_MOST (n * unit)) s whole.1 refl h
@@ -106,15 +95,15 @@ size_in-size n (c ∷ d ∷ more) s h = absurd (err_ok Form s h)
 size_in-size n (c ∷ []) s h = turn (c == 37) h
   where
     turn : (b : Bool) → (if b then percent_in n else bytes_in n (unit_bytes c)) ≡ Ok s → IsSize s
-    turn true h = percent-size n (within 0 100 n) s refl h
+    turn true h = percent-size n (within 0 PERCENT_MOST n) s refl h
     turn false h = bytes_in-size n (unit_bytes c) s (λ unit e. let low = to_ascii_lowercase c in kibi_units (low == 107) (low == 109) (low == 103) (low == 116) unit e) h
 
 size_of-size : (t : Token) (s : Size) → size_of t ≡ Ok s → IsSize s
 size_of-size (Quoted text) s h = turn (digit_count text == 0) h
   where
-    turn : (b : Bool) → (if b then Err Form else size_in (front_number text) (unit_of text)) ≡ Ok s → IsSize s
+    turn : (b : Bool) → (if b then Err Form else size_in (front_number text) (behind_digits text)) ≡ Ok s → IsSize s
     turn true h = absurd (err_ok Form s h)
-    turn false h = size_in-size (front_number text) (unit_of text) s h
+    turn false h = size_in-size (front_number text) (behind_digits text) s h
 size_of-size (Bare word) s h = absurd (err_ok Form s h)
 size_of-size (Number n) s h = absurd (err_ok Form s h)
 size_of-size (Sign sign) s h = absurd (err_ok Form s h)
@@ -134,15 +123,15 @@ span_in-between least n (c ∷ unit) m h = turn (c == 32) h
 span_of-between : (least : ℕ) (t : Token) (m : ℕ) → span_of least t ≡ Ok m → IsBetween least SPAN_MOST m
 span_of-between least (Quoted text) m h = turn (digit_count text == 0) h
   where
-    turn : (b : Bool) → (if b then Err Form else span_in least (front_number text) (unit_of text)) ≡ Ok m → IsBetween least SPAN_MOST m
+    turn : (b : Bool) → (if b then Err Form else span_in least (front_number text) (behind_digits text)) ≡ Ok m → IsBetween least SPAN_MOST m
     turn true h = absurd (err_ok Form m h)
-    turn false h = span_in-between least (front_number text) (unit_of text) m h
+    turn false h = span_in-between least (front_number text) (behind_digits text) m h
 span_of-between least (Bare word) m h = absurd (err_ok Form m h)
 span_of-between least (Number n) m h = absurd (err_ok Form m h)
 span_of-between least (Sign s) m h = absurd (err_ok Form m h)
 
 timeout_of-between : (t : Token) (m : ℕ) → timeout_of t ≡ Ok m → IsBetween 0 SPAN_MOST m
-timeout_of-between (Number n) m h = (within-ok 0 SPAN_MOST (n * 1000) m h).1
+timeout_of-between (Number n) m h = (within-ok 0 SPAN_MOST (n * SECOND_MS) m h).1
 timeout_of-between (Bare word) m h = span_of-between 0 (Bare word) m h
 timeout_of-between (Quoted text) m h = span_of-between 0 (Quoted text) m h
 timeout_of-between (Sign s) m h = span_of-between 0 (Sign s) m h
@@ -167,18 +156,18 @@ signed-all : (P : ℤ → Type 0) (sign : ℕ → ℤ) (r : Result ℕ Fault) (x
 signed-all P sign (Ok n) x all h = subst P (ok_is (sign n) x h) (all n refl)
 signed-all P sign (Err fault) x all h = absurd (err_ok _ x h)
 
-negative-priority : (n : ℕ) → n ≤ 100 → IsPriority (neg_ℤ (pos n))
+negative-priority : (n : ℕ) → n ≤ nat_abs PRIORITY_MOST → IsPriority (neg_ℤ (pos n))
 negative-priority zero h = lit≤ tt
 negative-priority (suc n) h = omega arith
 
 priority_of-right : (t : Token) (x : ℤ) → priority_of t ≡ Ok x → IsPriority x
 priority_of-right t x h = turn (is_key t (codes "HOLD")) h
   where
-    turn : (b : Bool) → (if b then Err stop.NotSupported else unless_default t defaults.priority (signed parameter.Priority pos (number_of 0 100 t))) ≡ Ok x → IsPriority x
+    turn : (b : Bool) → (if b then Err stop.NotSupported else unless_default t defaults.priority (signed parameter.Priority pos (number_between 0 (nat_abs PRIORITY_MOST) t))) ≡ Ok x → IsPriority x
     turn true h = absurd (err_ok stop.NotSupported x h)
     turn false h =
         default-all IsPriority (is_default t) defaults.priority _ x (lit≤ tt)
-        (λ y e. signed-all IsPriority pos (number_of 0 100 t) y (λ n is. (number_of-ok 0 100 t n is).1) e) h
+        (λ y e. signed-all IsPriority pos (number_between 0 (nat_abs PRIORITY_MOST) t) y (λ n is. (number_between-ok 0 (nat_abs PRIORITY_MOST) t n is).1) e) h
 
 -- a value of a parameter is a setting of it
 as_setting-ok : {T : Type 0} (p : Parameter) (f : T → Setting) (r : Result T Stop) (x : Setting)
@@ -196,19 +185,19 @@ one-right parameter.MaxMemorySize t x h =
 one-right parameter.MaxQueryMemorySize t x h =
     as_setting-ok parameter.MaxQueryMemorySize (λ y. setting.MaxQueryMemorySize y) (optional_size parameter.MaxQueryMemorySize t) x (λ y. refl) (λ y e. optional-all IsSize parameter.MaxQueryMemorySize (is_none t) (size_of t) y (size_of-size t) e) h
 one-right parameter.ExecutionParallelism t x h =
-    as_setting-ok parameter.ExecutionParallelism (λ y. setting.ExecutionParallelism y) (parallelism_of parameter.ExecutionParallelism (is_auto t) t) x (λ y. refl) (λ y e. optional-all (IsBetween 1 CONCURRENCY_MOST) parameter.ExecutionParallelism (is_auto t) (number_of 1 CONCURRENCY_MOST t) y (number_of-ok 1 CONCURRENCY_MOST t) e) h
+    as_setting-ok parameter.ExecutionParallelism (λ y. setting.ExecutionParallelism y) (parallelism_of parameter.ExecutionParallelism (is_auto t) t) x (λ y. refl) (λ y e. optional-all (IsBetween 1 CONCURRENCY_MOST) parameter.ExecutionParallelism (is_auto t) (number_between 1 CONCURRENCY_MOST t) y (number_between-ok 1 CONCURRENCY_MOST t) e) h
 one-right parameter.Priority t x h =
     as_setting-ok parameter.Priority (λ y. setting.Priority y) (priority_of t) x (λ y. refl) (λ y e. priority_of-right t y e) h
 one-right parameter.RuntimePriority t x h =
     as_setting-ok parameter.RuntimePriority (λ y. setting.RuntimePriority y) (level_of t) x (λ y. refl) (λ y e. tt) h
 one-right parameter.RuntimePriorityThreshold t x h =
-    as_setting-ok parameter.RuntimePriorityThreshold (λ y. setting.RuntimePriorityThreshold y) (threshold_of t) x (λ y. refl) (λ y e. default-all (IsBetween 0 THRESHOLD_SECONDS_MOST) (is_default t) defaults.threshold_s _ y (lit≤ tt, lit≤ tt) (λ z g. taken-all (IsBetween 0 THRESHOLD_SECONDS_MOST) parameter.RuntimePriorityThreshold (number_of 0 THRESHOLD_SECONDS_MOST t) z (number_of-ok 0 THRESHOLD_SECONDS_MOST t) g) e) h
+    as_setting-ok parameter.RuntimePriorityThreshold (λ y. setting.RuntimePriorityThreshold y) (threshold_of t) x (λ y. refl) (λ y e. default-all (IsBetween 0 THRESHOLD_SECONDS_MOST) (is_default t) defaults.threshold_s _ y (lit≤ tt, lit≤ tt) (λ z g. taken-all (IsBetween 0 THRESHOLD_SECONDS_MOST) parameter.RuntimePriorityThreshold (number_between 0 THRESHOLD_SECONDS_MOST t) z (number_between-ok 0 THRESHOLD_SECONDS_MOST t) g) e) h
 one-right parameter.QueueTimeout t x h =
     as_setting-ok parameter.QueueTimeout (λ y. setting.QueueTimeout y) (queue_timeout_of t) x (λ y. refl) (λ y e. default-all (IsOptionalBetween 0 SPAN_MOST) (is_default t) defaults.queue_ms _ y (lit≤ tt, lit≤ tt) (λ z g. optional-all (IsBetween 0 SPAN_MOST) parameter.QueueTimeout (is_key t (codes "NONE")) (timeout_of t) z (timeout_of-between t) g) e) h
 one-right parameter.PlannedConcurrency t x h =
-    as_setting-ok parameter.PlannedConcurrency (λ y. setting.PlannedConcurrency y) (parallelism_of parameter.PlannedConcurrency (is_auto t) t) x (λ y. refl) (λ y e. optional-all (IsBetween 1 CONCURRENCY_MOST) parameter.PlannedConcurrency (is_auto t) (number_of 1 CONCURRENCY_MOST t) y (number_of-ok 1 CONCURRENCY_MOST t) e) h
+    as_setting-ok parameter.PlannedConcurrency (λ y. setting.PlannedConcurrency y) (parallelism_of parameter.PlannedConcurrency (is_auto t) t) x (λ y. refl) (λ y e. optional-all (IsBetween 1 CONCURRENCY_MOST) parameter.PlannedConcurrency (is_auto t) (number_between 1 CONCURRENCY_MOST t) y (number_between-ok 1 CONCURRENCY_MOST t) e) h
 one-right parameter.MaxConcurrency t x h =
-    as_setting-ok parameter.MaxConcurrency (λ y. setting.MaxConcurrency y) (parallelism_of parameter.MaxConcurrency (is_none t) t) x (λ y. refl) (λ y e. optional-all (IsBetween 1 CONCURRENCY_MOST) parameter.MaxConcurrency (is_none t) (number_of 1 CONCURRENCY_MOST t) y (number_of-ok 1 CONCURRENCY_MOST t) e) h
+    as_setting-ok parameter.MaxConcurrency (λ y. setting.MaxConcurrency y) (parallelism_of parameter.MaxConcurrency (is_none t) t) x (λ y. refl) (λ y e. optional-all (IsBetween 1 CONCURRENCY_MOST) parameter.MaxConcurrency (is_none t) (number_between 1 CONCURRENCY_MOST t) y (number_between-ok 1 CONCURRENCY_MOST t) e) h
 one-right parameter.RuntimeCap t x h =
     as_setting-ok parameter.RuntimeCap (λ y. setting.RuntimeCap y) (runtime_cap_of t) x (λ y. refl) (λ y e. optional-all (IsBetween 1 SPAN_MOST) parameter.RuntimeCap (is_none t) (span_of 1 t) y (span_of-between 1 t) e) h
 one-right parameter.Cascade t x h =
@@ -221,7 +210,7 @@ one-right parameter.MemoryCap t x h =
 value-right : (p : Parameter) (x : Setting) (vs : List Token) → IsValue p x vs → (p ≡ parameter_named x) × IsRightValue x
 value-right _ _ _ (one p x t is) = one-right p t x is
 value-right _ _ _ (minus n t is) =
-    (refl, signed-all IsPriority (λ m. neg_ℤ (pos m)) (number_of 0 100 t) n (λ m e. negative-priority m (number_of-ok 0 100 t m e).1) is)
+    (refl, signed-all IsPriority (λ m. neg_ℤ (pos m)) (number_between 0 (nat_abs PRIORITY_MOST) t) n (λ m e. negative-priority m (number_between-ok 0 (nat_abs PRIORITY_MOST) t m e).1) is)
 
 -- a right value keeps what is right
 set_pool-right : (c : PoolChange) (x : Setting) → IsRightPool c → IsRightValue x → IsRightPool (set_pool c x)
@@ -262,7 +251,15 @@ HasRight (statement.CreatePool n c) = IsRightPool c
 HasRight (statement.AlterPool n c) = IsRightPool c
 HasRight (statement.CreateUser n c) = IsRightUser c
 HasRight (statement.AlterUser n c) = IsRightUser c
-HasRight _ = Unit {0}
+HasRight (statement.DropPool n) = Unit {0}
+HasRight (statement.DropUser n) = Unit {0}
+HasRight (statement.CreateRole n) = Unit {0}
+HasRight (statement.AlterRole n pool) = Unit {0}
+HasRight (statement.DropRole n) = Unit {0}
+HasRight (statement.GrantUsage p n) = Unit {0}
+HasRight (statement.RevokeUsage p n) = Unit {0}
+HasRight (statement.GrantRole r u) = Unit {0}
+HasRight (statement.RevokeRole r u) = Unit {0}
 
 set-right : (st : Statement) (x : Setting) → HasRight st → IsRightValue x → HasRight (set st x)
 set-right (statement.CreatePool n c) x h right = set_pool-right c x h right
@@ -307,10 +304,7 @@ found-all f good [] p all h = absurd cc
 found-all f good (q ∷ qs) p all h = turn (f q) h (found-all f good qs p (and_parts (good q) (list_all good qs) all).1)
   where
     turn : (b : Bool) → (if b then Some q else find f qs) ≡ Some p → (find f qs ≡ Some p → good p ≡ true) → good p ≡ true
-    turn true h rest = let same : q ≡ p = same_some q p h in ap good (sym same) ∙ (and_parts (good q) (list_all good qs) all).0
-      where
-        same_some : (a b : Parameter) → ◌≡◌ {A = Option Parameter} (Some a) (Some b) → a ≡ b
-        same_some a b h = cc
+    turn true h rest = let same : q ≡ p = some_is q p h in ap good (sym same) ∙ (and_parts (good q) (list_all good qs) all).0
     turn false h rest = rest h
 
 found-any : (f good : Parameter → Bool) (ps : List Parameter) (p : Parameter) → good p ≡ true → find f ps ≡ Some p → list_any good ps ≡ true
@@ -321,11 +315,8 @@ found-any f good (q ∷ qs) p is h = turn (f q) h (found-any f good qs p is)
     or_true true = refl
     or_true false = refl
 
-    same_some : (a b : Parameter) → ◌≡◌ {A = Option Parameter} (Some a) (Some b) → a ≡ b
-    same_some a b h = cc
-
     turn : (b : Bool) → (if b then Some q else find f qs) ≡ Some p → (find f qs ≡ Some p → list_any good qs ≡ true) → list_any good (q ∷ qs) ≡ true
-    turn true h rest = ap (λ b. b || list_any good qs) (ap good (same_some q p h) ∙ is)
+    turn true h rest = ap (λ b. b || list_any good qs) (ap good (some_is q p h) ∙ is)
     turn false h rest = ap (λ b. good q || b) (rest h) ∙ or_true (good q)
 
 abbrev is_of_pool : Parameter → Bool
@@ -421,9 +412,6 @@ is_alter (statement.AlterPool n c) = true
 is_alter (statement.AlterUser n c) = true
 is_alter _ = false
 
-true_false : ◌≡◌ {A = Bool} true false → ⊥
-true_false h = cc
-
 whole-names : (b : Bool) (st : Statement) (ts : List Token) → b ≡ true → is_alter st ≡ true → IsBody b st ts → names_any st ≡ true
 whole-names _ _ _ whole alter (named b st ts t p x vs body is fresh value) = set-names st x t p is (value-right p x vs value).0
 whole-names _ _ _ whole alter (alter_pool n) = absurd (true_false (sym whole))
@@ -440,21 +428,21 @@ whole-names _ _ _ whole alter (revoke_usage p n) = absurd (true_false (sym alter
 whole-names _ _ _ whole alter (grant_role r u) = absurd (true_false (sym alter))
 whole-names _ _ _ whole alter (revoke_role r u) = absurd (true_false (sym alter))
 
-whole-right : (st : Statement) (ts : List Token) → IsBody true st ts → IsRight st
-whole-right (statement.CreatePool n c) ts body = body-right true _ ts body
-whole-right (statement.AlterPool n c) ts body = (body-right true _ ts body, whole-names true _ ts refl refl body)
-whole-right (statement.CreateUser n c) ts body = body-right true _ ts body
-whole-right (statement.AlterUser n c) ts body = (body-right true _ ts body, whole-names true _ ts refl refl body)
-whole-right (statement.DropPool n) ts body = tt
-whole-right (statement.DropUser n) ts body = tt
-whole-right (statement.CreateRole n) ts body = tt
-whole-right (statement.AlterRole n pool) ts body = tt
-whole-right (statement.DropRole n) ts body = tt
-whole-right (statement.GrantUsage p n) ts body = tt
-whole-right (statement.RevokeUsage p n) ts body = tt
-whole-right (statement.GrantRole r u) ts body = tt
-whole-right (statement.RevokeRole r u) ts body = tt
+whole-well_formed : (st : Statement) (ts : List Token) → IsBody true st ts → IsWellFormed st
+whole-well_formed (statement.CreatePool n c) ts body = body-right true _ ts body
+whole-well_formed (statement.AlterPool n c) ts body = (body-right true _ ts body, whole-names true _ ts refl refl body)
+whole-well_formed (statement.CreateUser n c) ts body = body-right true _ ts body
+whole-well_formed (statement.AlterUser n c) ts body = (body-right true _ ts body, whole-names true _ ts refl refl body)
+whole-well_formed (statement.DropPool n) ts body = tt
+whole-well_formed (statement.DropUser n) ts body = tt
+whole-well_formed (statement.CreateRole n) ts body = tt
+whole-well_formed (statement.AlterRole n pool) ts body = tt
+whole-well_formed (statement.DropRole n) ts body = tt
+whole-well_formed (statement.GrantUsage p n) ts body = tt
+whole-well_formed (statement.RevokeUsage p n) ts body = tt
+whole-well_formed (statement.GrantRole r u) ts body = tt
+whole-well_formed (statement.RevokeRole r u) ts body = tt
 
-pub spelled-right : (ts : List Token) (st : Statement) → Spells ts st → IsRight st
-spelled-right _ _ (bare st ts body) = whole-right st ts body
-spelled-right _ _ (ended st ts body) = whole-right st ts body
+pub spelled-well_formed : (ts : List Token) (st : Statement) → Spells ts st → IsWellFormed st
+spelled-well_formed _ _ (bare st ts body) = whole-well_formed st ts body
+spelled-well_formed _ _ (ended st ts body) = whole-well_formed st ts body

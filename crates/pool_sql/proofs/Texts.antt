@@ -14,17 +14,17 @@ use Rattle.pool_sql.specs.declared.progress.Progress.TheVariants.{Start}
 use Rattle.pool_sql.specs.declared.stop.Stop.{Stop}
 use Rattle.pool_sql.specs.Grammar.{IsFront, IsWhy, Spells}
 use Rattle.pool_sql.specs.Machine.{Stepped, finish, onward, run, step}
-use Rattle.pool_sql.specs.Right.{IsRight}
-use Rattle.pool_sql.specs.Text.{IsRefused, at_word, at_gap, at_end, IsWellFormed, BeginsText, SpellsText, token_in, tokens_in}
+use Rattle.rm_base.proofs.WellFormed.{well_formed-in_range}
+use Rattle.rm_base.specs.WellFormed.{IsWellFormed}
+use Rattle.pool_sql.specs.Text.{IsRefused, at_word, at_gap, at_end, BeginsText, SpellsText, token_in, tokens_in}
 use Rattle.pool_sql.specs.Reading.{finished, next_word, read_of, read_on}
 use Rattle.pool_sql.proofs.Saying.{AllSay-append, said-spells, words_say}
-use Rattle.pool_sql.proofs.Means.{not_err, ok_is}
 use Rattle.pool_sql.proofs.Complete.{run-after, spells-gives}
 use Rattle.pool_sql.proofs.Fronts.{finish-spells, front-read, read-front, said-front, sound}
 use Rattle.pool_sql.proofs.Blamed.{stopped-why, why_one}
 use Rattle.pool_sql.proofs.Readings.{read-is_refused, read-spells}
-use Rattle.pool_sql.proofs.Rights.{spelled-right}
-use Rattle.pool_sql.proofs.Ranges.{right-in_range}
+use Rattle.pool_sql.proofs.Rights.{spelled-well_formed}
+use Rattle.pool_sql.proofs.Results.{ok_is, err_is, err_ok}
 
 abbrev Read : Type 0
 Read = Result Statement Refusal
@@ -35,7 +35,7 @@ run-turn : (text : List ℕ) (stuck : Option ℕ) (span : Span) (front rest : Li
     → ((q : Progress) → run q (tokens_in text front) ≡ Ok p → read_on text stuck q (front ++ rest) ≡ read_on text stuck p rest)
     → next_word span r (λ q. read_on text stuck q (front ++ rest)) ≡ read_on text stuck p rest
 run-turn text stuck span front rest p (Ok q) h more = more q h
-run-turn text stuck span front rest p (Err why) h more = absurd (not_err why p h)
+run-turn text stuck span front rest p (Err why) h more = absurd (err_ok why p h)
 
 read-run : (text : List ℕ) (stuck : Option ℕ) (q : Progress) (front rest : List Span) (p : Progress)
     → run q (tokens_in text front) ≡ Ok p → read_on text stuck q (front ++ rest) ≡ read_on text stuck p rest
@@ -142,32 +142,21 @@ read_of-refused text why =
       λ is. one_answer text (read_of text) (Err why) (read_of-reads text) (refused-reads text why is),
     )
 
-ok_one : (a b : Statement) → (let x : Read = Ok a in let y : Read = Ok b in x ≡ y) → a ≡ b
-ok_one a b h = cc
-
-err_one : (a b : Refusal) → (let x : Read = Err a in let y : Read = Err b in x ≡ y) → a ≡ b
-err_one a b h = cc
-
-err_ok : (a : Refusal) (b : Statement) → (let x : Read = Err a in let y : Read = Ok b in x ≡ y) → ⊥
-err_ok a b h = cc
-
 pub text-one_statement : (text : List ℕ) (a b : Statement) → SpellsText text a → SpellsText text b → a ≡ b
-text-one_statement text a b x y = ok_one a b (one_answer text (Ok a) (Ok b) (spelled-reads text a x) (spelled-reads text b y))
+text-one_statement text a b x y = ok_is a b (one_answer text (Ok a) (Ok b) (spelled-reads text a x) (spelled-reads text b y))
 
 pub text-one_refusal : (text : List ℕ) (a b : Refusal) → IsRefused text a → IsRefused text b → a ≡ b
-text-one_refusal text a b x y = err_one a b (one_answer text (Err a) (Err b) (refused-reads text a x) (refused-reads text b y))
+text-one_refusal text a b x y = err_is a b (one_answer text (Err a) (Err b) (refused-reads text a x) (refused-reads text b y))
 
 pub text-refused_spells_none : (text : List ℕ) (why : Refusal) (st : Statement) → IsRefused text why → SpellsText text st → ⊥
 text-refused_spells_none text why st x y = err_ok why st (one_answer text (Err why) (Ok st) (refused-reads text why x) (spelled-reads text st y))
 
-pub well_formed-right : (st : Statement) → IsWellFormed st → IsRight st
-well_formed-right st is = let spelled = is.1 in spelled-right (tokens_in is.0 spelled.0) st spelled.2
-
-pub spells-in_range : (text : List ℕ) (st : Statement) → SpellsText text st → is_statement_in_range st ≡ true
-spells-in_range text st is = right-in_range st (well_formed-right st (text, is))
+-- what some text spells is well formed
+pub spells-well_formed : (text : List ℕ) (st : Statement) → SpellsText text st → IsWellFormed st
+spells-well_formed text st is = spelled-well_formed (tokens_in text is.0) st is.2
 
 pub read_of-in_range : (text : List ℕ) (st : Statement) → read_of text ≡ Ok st → is_statement_in_range st ≡ true
-read_of-in_range text st h = spells-in_range text st ((read_of-spells text st).0 h)
+read_of-in_range text st h = well_formed-in_range st (spells-well_formed text st ((read_of-spells text st).0 h))
 
 -- words with which some statement begins are the first words of a text that is one
 pub front-text : (ws : List (List ℕ)) → AreWords ws → IsFront (map token_of ws) → BeginsText ws

@@ -4,7 +4,7 @@ use Rattle.std.specs.Char.{to_ascii_lowercase}
 use Rattle.std.specs.List.{list_any}
 use Rattle.std.specs.Str.{bytes_eq}
 use Rattle.std.specs.Str.Parse.{digits_value}
-use Rattle.rm_base.specs.declared.limits.TheConstants.{MEMORY_MOST, SPAN_MOST}
+use Rattle.rm_base.specs.declared.limits.TheConstants.{GIBI, HOUR_MS, KIBI, MEBI, MEMORY_MOST, MINUTE_MS, PERCENT_MOST, SECOND_MS, SPAN_MOST, TEBI}
 use Rattle.rm_base.specs.declared.statement.Size.{Size}
 use Rattle.rm_base.specs.declared.statement.Size.TheVariants.{Bytes, Percent}
 use Rattle.rm_words.specs.Class.{class_of}
@@ -17,36 +17,38 @@ use Rattle.pool_sql.specs.declared.stop.Fault.TheVariants.{Form, Outside}
 abbrev pub within : ℕ → ℕ → ℕ → Result ℕ Fault
 within least most n = if nat_le least n && nat_le n most then Ok n else Err Outside
 
-abbrev pub number_of : ℕ → ℕ → Token → Result ℕ Fault
-number_of least most (Number n) = within least most n
-number_of least most _ = Err Form
+-- the number that a word writes, where it is such a one
+abbrev pub number_between : ℕ → ℕ → Token → Result ℕ Fault
+number_between least most (Number n) = within least most n
+number_between least most _ = Err Form
 
 -- with how many digits a text begins
 abbrev pub digit_count : List ℕ → ℕ
 digit_count [] = 0
 digit_count (c ∷ cs) = if is_digit (class_of c) then digit_count cs + 1 else 0
 
--- the number that they write, and what stands behind them
+-- the number that they write
 abbrev pub front_number : List ℕ → ℕ
 front_number text = digits_value 10 (take (digit_count text) text)
 
-abbrev pub unit_of : List ℕ → List ℕ
-unit_of text = drop (digit_count text) text
+-- what stands behind them
+abbrev pub behind_digits : List ℕ → List ℕ
+behind_digits text = drop (digit_count text) text
 
 -- the bytes of a unit of sizes
 abbrev pub unit_bytes : ℕ → Option ℕ
 unit_bytes c =
-    if to_ascii_lowercase c == 107 then Some 1024
-    else (if to_ascii_lowercase c == 109 then Some 1048576
-    else (if to_ascii_lowercase c == 103 then Some 1073741824
-    else (if to_ascii_lowercase c == 116 then Some 1099511627776 else None)))
+    if to_ascii_lowercase c == 107 then Some KIBI
+    else (if to_ascii_lowercase c == 109 then Some MEBI
+    else (if to_ascii_lowercase c == 103 then Some GIBI
+    else (if to_ascii_lowercase c == 116 then Some TEBI else None)))
 
 abbrev pub percent : Result ℕ Fault → Result Size Fault
 percent (Ok n) = Ok (Percent n)
 percent (Err fault) = Err fault
 
 abbrev pub percent_in : ℕ → Result Size Fault
-percent_in n = percent (within 0 100 n)
+percent_in n = percent (within 0 PERCENT_MOST n)
 
 abbrev pub bytes : Result ℕ Fault → Result Size Fault
 bytes (Ok n) = Ok (Bytes n)
@@ -63,7 +65,7 @@ size_in n _ = Err Form
 
 abbrev pub size_in_text : List ℕ → Result Size Fault
 size_in_text text =
-    if digit_count text == 0 then Err Form else size_in (front_number text) (unit_of text)
+    if digit_count text == 0 then Err Form else size_in (front_number text) (behind_digits text)
 
 -- a size: digits and a unit between quotes
 abbrev pub size_of : Token → Result Size Fault
@@ -77,9 +79,9 @@ is_among texts text = list_any (bytes_eq text) texts
 abbrev pub unit_ms : List ℕ → Option ℕ
 unit_ms unit =
     if is_among (codes "ms" ∷ codes "millisecond" ∷ codes "milliseconds" ∷ []) unit then Some 1
-    else (if is_among (codes "second" ∷ codes "seconds" ∷ []) unit then Some 1000
-    else (if is_among (codes "minute" ∷ codes "minutes" ∷ []) unit then Some 60000
-    else (if is_among (codes "hour" ∷ codes "hours" ∷ []) unit then Some 3600000 else None)))
+    else (if is_among (codes "second" ∷ codes "seconds" ∷ []) unit then Some SECOND_MS
+    else (if is_among (codes "minute" ∷ codes "minutes" ∷ []) unit then Some MINUTE_MS
+    else (if is_among (codes "hour" ∷ codes "hours" ∷ []) unit then Some HOUR_MS else None)))
 
 abbrev pub ms_in : ℕ → ℕ → Option ℕ → Result ℕ Fault
 ms_in least n None = Err Form
@@ -92,7 +94,7 @@ span_in least n [] = Err Form
 
 abbrev pub span_in_text : ℕ → List ℕ → Result ℕ Fault
 span_in_text least text =
-    if digit_count text == 0 then Err Form else span_in least (front_number text) (unit_of text)
+    if digit_count text == 0 then Err Form else span_in least (front_number text) (behind_digits text)
 
 -- a span in milliseconds, at least so long: digits, a space and a unit between quotes
 abbrev pub span_of : ℕ → Token → Result ℕ Fault
@@ -101,5 +103,5 @@ span_of least _ = Err Form
 
 -- a timeout in milliseconds: a number of seconds, or a span
 abbrev pub timeout_of : Token → Result ℕ Fault
-timeout_of (Number n) = within 0 SPAN_MOST (n * 1000)
+timeout_of (Number n) = within 0 SPAN_MOST (n * SECOND_MS)
 timeout_of t = span_of 0 t

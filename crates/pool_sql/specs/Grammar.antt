@@ -6,6 +6,7 @@ use Rattle.rm_base.specs.declared.refusal.Parameter.TheVariants as parameter
 use Rattle.rm_base.specs.declared.statement.Statement.{Statement}
 use Rattle.rm_base.specs.declared.statement.Statement.TheVariants as statement
 use Rattle.rm_base.specs.Name.{name_text}
+use Rattle.rm_base.specs.WellFormed.{is_named}
 use Rattle.rm_words.specs.declared.token.Symbol.TheVariants.{Semicolon, Minus}
 use Rattle.rm_words.specs.Token.{Token, Bare, Sign, folded}
 use Rattle.pool_sql.specs.declared.setting.Setting.{Setting}
@@ -13,7 +14,7 @@ use Rattle.pool_sql.specs.declared.setting.Setting.TheVariants as setting
 use Rattle.pool_sql.specs.declared.stop.Stop.{Stop}
 use Rattle.pool_sql.specs.declared.stop.Stop.TheVariants as stop
 use Rattle.pool_sql.specs.Parameter.{is_affinity, parameter_of, takes_any}
-use Rattle.pool_sql.specs.Setting.{is_named, no_pool_change, no_user_change, set}
+use Rattle.pool_sql.specs.Setting.{no_pool_change, no_user_change, set}
 use Rattle.pool_sql.specs.Value.{negative_of, optional_name, value_of}
 
 -- a key word

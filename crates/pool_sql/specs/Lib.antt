@@ -7,5 +7,4 @@ pub mod Grammar
 pub mod Machine
 pub mod Text
 pub mod Reading
-pub mod Right
 pub mod Printed

@@ -5,6 +5,7 @@ use Rattle.rm_base.specs.declared.refusal.Parameter.{Parameter}
 use Rattle.rm_base.specs.declared.refusal.Parameter.TheVariants as parameter
 use Rattle.rm_base.specs.declared.statement.Statement.{Statement}
 use Rattle.rm_base.specs.declared.statement.Statement.TheVariants as statement
+use Rattle.rm_base.specs.WellFormed.{is_named}
 use Rattle.rm_words.specs.declared.token.Symbol.{Symbol}
 use Rattle.rm_words.specs.declared.token.Symbol.TheVariants as symbol
 use Rattle.rm_words.specs.Token.{Token, Bare, Number, Quoted, Sign, is_key}
@@ -22,7 +23,7 @@ use Rattle.pool_sql.specs.declared.stop.Stop.{Stop}
 use Rattle.pool_sql.specs.declared.stop.Stop.TheVariants as stop
 use Rattle.pool_sql.specs.Names.{name_of, usage_name}
 use Rattle.pool_sql.specs.Parameter.{is_affinity, parameter_of, takes_any}
-use Rattle.pool_sql.specs.Setting.{is_named, no_pool_change, no_user_change, set}
+use Rattle.pool_sql.specs.Setting.{no_pool_change, no_user_change, set}
 use Rattle.pool_sql.specs.Value.{negative_of, optional_name, value_of}
 
 abbrev pub Stepped : Type 0

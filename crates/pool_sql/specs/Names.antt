@@ -1,5 +1,5 @@
 -- the name that a token is
-use Rattle.std.specs.Prelude.{ℕ, if◌then◌else◌, Option, None, List, ◌++◌, replicate, refl, codes}
+use Rattle.std.specs.Prelude.{ℕ, if◌then◌else◌, Option, None, List, refl, codes}
 use Rattle.rm_base.specs.declared.name.Name.{Name}
 use Rattle.rm_base.specs.NameText.{is_name_text, keeps_name}
 use Rattle.rm_base.specs.Name.{name_kept, padded}
@@ -16,4 +16,4 @@ name_of _ = None
 
 -- a role may be called so, although USAGE is a key word behind GRANT and REVOKE
 abbrev pub usage_name : Name
-usage_name = record { bytes = codes "usage" ++ replicate 27 0; kept = refl }
+usage_name = record { bytes = padded (codes "usage"); kept = refl }

@@ -1,6 +1,7 @@
 -- the text that is printed of a statement
 use Rattle.std.specs.Prelude.{ℕ, ℤ, pos, negsuc, ◌+◌, ◌/◌, Option, Some, None, option_map, List, [], ◌∷◌, ◌++◌, codes}
 use Rattle.std.specs.Fmt.{decimal}
+use Rattle.rm_base.specs.declared.limits.TheConstants.{KIBI}
 use Rattle.rm_base.specs.declared.refusal.Parameter.{Parameter}
 use Rattle.rm_base.specs.declared.refusal.Parameter.TheVariants as parameter
 use Rattle.rm_base.specs.declared.statement.Level.{Level}
@@ -74,7 +75,7 @@ level_text High = codes "HIGH"
 abbrev pub value_text : Value → List ℕ
 value_text value.Absent = codes "NONE"
 value_text value.Auto = codes "AUTO"
-value_text (value.OfSize (size.Bytes n)) = codes "'" ++ (decimal (n / 1024) ++ codes "K'")
+value_text (value.OfSize (size.Bytes n)) = codes "'" ++ (decimal (n / KIBI) ++ codes "K'")
 value_text (value.OfSize (size.Percent n)) = codes "'" ++ (decimal n ++ codes "%'")
 value_text (value.Number n) = decimal n
 value_text (value.Negative n) = codes "- " ++ decimal n

@@ -22,8 +22,8 @@ abbrev pub SpellsText : List ℕ → Statement → Type 0
 SpellsText text st = (spans : List Span) × IsCut 0 text spans None × Spells (tokens_in text spans) st
 
 -- some text is the statement
-abbrev pub IsWellFormed : Statement → Type 0
-IsWellFormed st = (text : List ℕ) × SpellsText text st
+abbrev pub IsSpelled : Statement → Type 0
+IsSpelled st = (text : List ℕ) × SpellsText text st
 
 -- some text that begins with these words is a statement
 abbrev pub BeginsText : List (List ℕ) → Type 0

@@ -1,6 +1,6 @@
 -- which values a parameter takes
-use Rattle.std.specs.Prelude.{ℕ, ℤ, pos, neg_ℤ, Bool, true, false, ◌||◌, if◌then◌else◌, Option, Some, None, Result, Ok, Err, codes}
-use Rattle.rm_base.specs.declared.limits.TheConstants.{CONCURRENCY_MOST, THRESHOLD_SECONDS_MOST}
+use Rattle.std.specs.Prelude.{ℕ, ℤ, pos, nat_abs, neg_ℤ, Bool, true, false, ◌||◌, if◌then◌else◌, Option, Some, None, Result, Ok, Err, codes}
+use Rattle.rm_base.specs.declared.limits.TheConstants.{CONCURRENCY_MOST, PRIORITY_MOST, THRESHOLD_SECONDS_MOST}
 use Rattle.rm_base.specs.declared.name.Name.{Name}
 use Rattle.rm_base.specs.declared.refusal.Parameter.{Parameter}
 use Rattle.rm_base.specs.declared.refusal.Parameter.TheVariants as parameter
@@ -18,7 +18,7 @@ use Rattle.pool_sql.specs.declared.stop.Fault.{Fault}
 use Rattle.pool_sql.specs.declared.stop.Fault.TheVariants.{Form, Outside}
 use Rattle.pool_sql.specs.declared.stop.Stop.{Stop}
 use Rattle.pool_sql.specs.declared.stop.Stop.TheVariants.{Syntax, NotSupported, Range}
-use Rattle.pool_sql.specs.Amount.{number_of, size_of, span_of, timeout_of}
+use Rattle.pool_sql.specs.Amount.{number_between, size_of, span_of, timeout_of}
 use Rattle.pool_sql.specs.Names.{name_of}
 
 abbrev pub is_default : Token → Bool
@@ -63,7 +63,7 @@ optional_size p t = optional p (is_none t) (size_of t)
 
 -- 1 to 1,000, or none for AUTO or NONE
 abbrev pub parallelism_of : Parameter → Bool → Token → Result (Option ℕ) Stop
-parallelism_of p none t = optional p none (number_of 1 CONCURRENCY_MOST t)
+parallelism_of p none t = optional p none (number_between 1 CONCURRENCY_MOST t)
 
 abbrev pub signed : Parameter → (ℕ → ℤ) → Result ℕ Fault → Result ℤ Stop
 signed p sign (Ok n) = Ok (sign n)
@@ -72,11 +72,11 @@ signed p sign (Err fault) = Err (stop_of p fault)
 abbrev pub priority_of : Token → Result ℤ Stop
 priority_of t =
     if is_key t (codes "HOLD") then Err NotSupported
-    else unless_default t defaults.priority (signed parameter.Priority pos (number_of 0 100 t))
+    else unless_default t defaults.priority (signed parameter.Priority pos (number_between 0 (nat_abs PRIORITY_MOST) t))
 
 -- a priority whose word stands behind a `-`
 abbrev pub negative_of : Token → Result ℤ Stop
-negative_of t = signed parameter.Priority (λ n. neg_ℤ (pos n)) (number_of 0 100 t)
+negative_of t = signed parameter.Priority (λ n. neg_ℤ (pos n)) (number_between 0 (nat_abs PRIORITY_MOST) t)
 
 abbrev pub level_of : Token → Result Level Stop
 level_of t =
@@ -88,7 +88,7 @@ level_of t =
 abbrev pub threshold_of : Token → Result ℕ Stop
 threshold_of t =
     unless_default t defaults.threshold_s
-    (taken parameter.RuntimePriorityThreshold (number_of 0 THRESHOLD_SECONDS_MOST t))
+    (taken parameter.RuntimePriorityThreshold (number_between 0 THRESHOLD_SECONDS_MOST t))
 
 abbrev pub queue_timeout_of : Token → Result (Option ℕ) Stop
 queue_timeout_of t =

@@ -1,34 +1,17 @@
-ghost use Rattle.std.specs.Prelude.{◌≡◌, ◌-◌, ◌*◌, ◌^◌, ◌<◌, ◌≤◌, min, length};
+ghost use Rattle.std.specs.Prelude.{◌≡◌, ◌-◌, ◌*◌, ◌^◌, ◌<◌, ◌≤◌, length};
 ghost use Rattle.std.specs.List.{list_any};
 ghost use Rattle.std.specs.Str.{bytes_eq};
-ghost use Rattle.std.specs.Str.Parse.{digits_value};
 ghost use Rattle.rm_words.specs.Class.{class_of};
 ghost use Rattle.rm_words.specs.Word.{is_digit};
-ghost use Rattle.rm_words.specs.Token.{AreDigits, most, seen};
-ghost use Rattle.pool_sql.specs.Amount.{bytes_in, digit_count, ms_in, number_of, percent_in, size_in, size_in_text, size_of, span_in, span_in_text, span_of, timeout_of, unit_bytes, unit_ms, within};
+ghost use Rattle.rm_words.specs.Token.{seen};
+ghost use Rattle.pool_sql.specs.Amount.{bytes_in, digit_count, ms_in, number_between, percent_in, size_in, size_in_text, size_of, span_in, span_in_text, span_of, timeout_of, unit_bytes, unit_ms, within};
 
 use crate::stop::Fault;
-use rm_base::limits::{MEMORY_MOST, SPAN_MOST};
+use rm_base::limits::{
+    GIBI, HOUR_MS, KIBI, MEBI, MEMORY_MOST, MINUTE_MS, PERCENT_MOST, SECOND_MS, SPAN_MOST, TEBI,
+};
 use rm_base::statement::Size;
-use rm_words::token::Token;
-
-/// The greatest percentage.
-const PERCENT_MOST: u64 = 100;
-
-/// How many bytes a K of a size has.
-pub const KIBI: u64 = 1 << 10;
-
-const MEBI: u64 = 1 << 20;
-
-const GIBI: u64 = 1 << 30;
-
-const TEBI: u64 = 1 << 40;
-
-const SECOND: u64 = 1_000;
-
-const MINUTE: u64 = 60 * SECOND;
-
-const HOUR: u64 = 60 * MINUTE;
+use rm_words::token::{Token, digits_value};
 
 fn within(least: u64, most: u64, number: u64) -> Result<u64, Fault>
     ensures { result ≡ within least most number }
@@ -51,8 +34,9 @@ fn scaled(least: u64, most: u64, number: u64, unit: u64) -> Result<u64, Fault>
     }
 }
 
-pub fn number_of(least: u64, most: u64, token: &Token) -> Result<u64, Fault>
-    ensures { result ≡ number_of least most (seen token.now) }
+/// The number that a word writes, where it is between a least and a greatest one.
+pub fn number_between(least: u64, most: u64, token: &Token) -> Result<u64, Fault>
+    ensures { result ≡ number_between least most (seen token.now) }
 {
     match token {
         Token::Number(number) => within(least, most, *number),
@@ -77,20 +61,6 @@ fn digit_count(text: &[u8]) -> usize
         }
     }
     text.len()
-}
-
-/// The number that digits write, or the greatest `u64` where it is greater.
-fn digits_value(digits: &[u8]) -> u64
-    requires { AreDigits digits.now }
-    ensures { result ≡ min (digits_value 10 digits.now) most }
-{
-    let mut value: u64 = 0;
-    for byte in digits {
-        value = value
-            .saturating_mul(10)
-            .saturating_add(u64::from(*byte - b'0'));
-    }
-    value
 }
 
 fn unit_bytes(byte: u8) -> Option<u64>
@@ -164,11 +134,11 @@ fn unit_ms(unit: &[u8]) -> Option<u64>
     if is_among(unit, &["ms", "millisecond", "milliseconds"]) {
         Some(1)
     } else if is_among(unit, &["second", "seconds"]) {
-        Some(SECOND)
+        Some(SECOND_MS)
     } else if is_among(unit, &["minute", "minutes"]) {
-        Some(MINUTE)
+        Some(MINUTE_MS)
     } else if is_among(unit, &["hour", "hours"]) {
-        Some(HOUR)
+        Some(HOUR_MS)
     } else {
         None
     }
@@ -218,7 +188,7 @@ pub fn timeout_of(token: &Token) -> Result<u64, Fault>
     ensures { result ≡ timeout_of (seen token.now) }
 {
     match token {
-        Token::Number(seconds) => scaled(0, SPAN_MOST, *seconds, SECOND),
+        Token::Number(seconds) => scaled(0, SPAN_MOST, *seconds, SECOND_MS),
         _ => span_of(0, token),
     }
 }

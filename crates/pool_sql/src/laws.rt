@@ -1,15 +1,14 @@
 //! What holds of every text and every statement, each law a function that does nothing.
 
-ghost use Rattle.std.specs.Prelude.{◌≡◌, ◌↔◌, ℕ, true, Ok, Err, List, map};
+ghost use Rattle.std.specs.Prelude.{◌≡◌, ◌↔◌, ℕ, Ok, Err, List, map};
 ghost use Rattle.rm_base.specs.declared.refusal.Refusal.{Refusal};
 ghost use Rattle.rm_base.specs.declared.statement.Statement.{Statement};
-ghost use Rattle.rm_base.specs.Ranges.{is_statement_in_range};
+ghost use Rattle.rm_base.specs.WellFormed.{IsWellFormed};
 ghost use Rattle.rm_words.specs.Cut.{AreWords};
 ghost use Rattle.rm_words.specs.Token.{token_of};
 ghost use Rattle.pool_sql.specs.Grammar.{IsFront};
 ghost use Rattle.pool_sql.specs.Reading.{read_of};
-ghost use Rattle.pool_sql.specs.Right.{IsRight};
-ghost use Rattle.pool_sql.specs.Text.{BeginsText, IsRefused, IsWellFormed, SpellsText};
+ghost use Rattle.pool_sql.specs.Text.{BeginsText, IsRefused, IsSpelled, SpellsText};
 
 /// A text is one statement at most.
 pub fn one_statement()
@@ -39,15 +38,9 @@ pub fn read_of_refused()
         → read_of text ≡ Err refusal ↔ IsRefused text refusal }
 {}
 
-/// Every value of a statement that is read is in its range.
-pub fn read_of_in_range()
-    ensures { (text : List ℕ) (statement : Statement)
-        → read_of text ≡ Ok statement → is_statement_in_range statement ≡ true }
-{}
-
-/// Some text is a statement exactly where its values are in their ranges.
-pub fn well_formed_is_right()
-    ensures { (statement : Statement) → IsWellFormed statement ↔ IsRight statement }
+/// Some text is a statement exactly where the statement is well formed.
+pub fn spelled_is_well_formed()
+    ensures { (statement : Statement) → IsSpelled statement ↔ IsWellFormed statement }
 {}
 
 /// Words with which some statement begins are the first words of some text that is a statement.

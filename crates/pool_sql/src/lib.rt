@@ -15,6 +15,4 @@ pub mod reading;
 mod setting;
 mod shown;
 mod stop;
-#[cfg(test)]
-mod tests;
 mod value;

@@ -1,13 +1,14 @@
 ghost use Rattle.std.specs.Prelude.{◌≡◌};
 ghost use Rattle.rm_base.specs.RefusalText.{parameter_text};
+ghost use Rattle.rm_base.specs.WellFormed.{parameters};
 ghost use Rattle.rm_words.specs.Token.{is_key, seen};
-ghost use Rattle.pool_sql.specs.Parameter.{is_affinity, parameter_among, parameter_of, takes_any};
+ghost use Rattle.pool_sql.specs.Parameter.{is_affinity, parameter_of, takes_any};
 
 use rm_base::refusal::Parameter;
 use rm_base::statement::Statement;
 use rm_words::token::Token;
 
-const POOL_PARAMETERS: [Parameter; 12] = [
+static POOL_PARAMETERS: [Parameter; 12] = [
     Parameter::MemorySize,
     Parameter::MaxMemorySize,
     Parameter::MaxQueryMemorySize,
@@ -22,75 +23,52 @@ const POOL_PARAMETERS: [Parameter; 12] = [
     Parameter::Cascade,
 ];
 
-const USER_PARAMETERS: [Parameter; 3] = [
+static USER_PARAMETERS: [Parameter; 3] = [
     Parameter::ResourcePool,
     Parameter::MemoryCap,
     Parameter::RuntimeCap,
 ];
 
-/// The first key word of a parameter.
-pub fn parameter_text(parameter: Parameter) -> &'static str
-    ensures { result.now ≡ parameter_text parameter }
+/// The parameters that the statement may name.
+fn parameters(statement: &Statement) -> &'static [Parameter]
+    ensures { result.now ≡ parameters statement.now }
 {
-    match parameter {
-        Parameter::MemorySize => "MEMORYSIZE",
-        Parameter::MaxMemorySize => "MAXMEMORYSIZE",
-        Parameter::MaxQueryMemorySize => "MAXQUERYMEMORYSIZE",
-        Parameter::ExecutionParallelism => "EXECUTIONPARALLELISM",
-        Parameter::Priority => "PRIORITY",
-        Parameter::RuntimePriority => "RUNTIMEPRIORITY",
-        Parameter::RuntimePriorityThreshold => "RUNTIMEPRIORITYTHRESHOLD",
-        Parameter::QueueTimeout => "QUEUETIMEOUT",
-        Parameter::PlannedConcurrency => "PLANNEDCONCURRENCY",
-        Parameter::MaxConcurrency => "MAXCONCURRENCY",
-        Parameter::RuntimeCap => "RUNTIMECAP",
-        Parameter::Cascade => "CASCADE",
-        Parameter::ResourcePool => "RESOURCE",
-        Parameter::MemoryCap => "MEMORYCAP",
+    match statement {
+        Statement::CreatePool(..) | Statement::AlterPool(..) => &POOL_PARAMETERS,
+        Statement::CreateUser(..) | Statement::AlterUser(..) => &USER_PARAMETERS,
+        Statement::DropPool(_)
+        | Statement::DropUser(_)
+        | Statement::CreateRole(_)
+        | Statement::AlterRole(..)
+        | Statement::DropRole(_)
+        | Statement::GrantUsage(..)
+        | Statement::RevokeUsage(..)
+        | Statement::GrantRole(..)
+        | Statement::RevokeRole(..) => &[],
     }
 }
 
 fn names(parameter: Parameter, token: &Token) -> bool
     ensures { result ≡ is_key (seen token.now) (parameter_text parameter) }
 {
-    token.is_key(parameter_text(parameter).as_bytes())
-}
-
-fn parameter_among(parameters: &[Parameter], token: &Token) -> Option<Parameter>
-    ensures { result ≡ parameter_among parameters.now (seen token.now) }
-{
-    parameters
-        .iter()
-        .copied()
-        .find(|parameter| names(*parameter, token))
+    token.is_key(parameter.text().as_bytes())
 }
 
 /// The parameter of the statement that a word names.
 pub fn parameter_of(statement: &Statement, token: &Token) -> Option<Parameter>
     ensures { result ≡ parameter_of statement.now (seen token.now) }
 {
-    match statement {
-        Statement::CreatePool(..) | Statement::AlterPool(..) => {
-            parameter_among(&POOL_PARAMETERS, token)
-        }
-        Statement::CreateUser(..) | Statement::AlterUser(..) => {
-            parameter_among(&USER_PARAMETERS, token)
-        }
-        _ => None,
-    }
+    parameters(statement)
+        .iter()
+        .copied()
+        .find(|parameter| names(*parameter, token))
 }
 
 /// Whether the statement takes parameters.
 pub fn takes_any(statement: &Statement) -> bool
     ensures { result ≡ takes_any statement.now }
 {
-    matches!(
-        statement,
-        Statement::CreatePool(..)
-            | Statement::AlterPool(..)
-            | Statement::CreateUser(..)
-            | Statement::AlterUser(..)
-    )
+    !parameters(statement).is_empty()
 }
 
 /// Whether the word is the name of a parameter that is not supported.

@@ -1,9 +1,9 @@
 ghost use Rattle.std.specs.Prelude.{◌≡◌, ◌++◌, IfOk, OnOk, option_map};
 ghost use Rattle.std.specs.String.{string_bytes};
+ghost use Rattle.rm_base.specs.WellFormed.{IsWellFormed};
 ghost use Rattle.pool_sql.specs.Printed.{keys_text, parameter_named, pool_settings, setting_text, settings_text, statement_text, user_settings};
-ghost use Rattle.pool_sql.specs.Text.{IsWellFormed, SpellsText};
+ghost use Rattle.pool_sql.specs.Text.{SpellsText};
 
-use crate::parameter::parameter_text;
 use crate::setting::Setting;
 use crate::shown::{name_or_none, value_in};
 use rm_base::name::Name;
@@ -39,7 +39,7 @@ fn keys_text(parameter: Parameter) -> &'static str
     match parameter {
         Parameter::Cascade => "CASCADE TO",
         Parameter::ResourcePool => "RESOURCE POOL",
-        _ => parameter_text(parameter),
+        _ => parameter.text(),
     }
 }
 

@@ -1,5 +1,6 @@
 ghost use Rattle.std.specs.Prelude.{◌≡◌, true, Ok, All, IfOk, IfErr};
 ghost use Rattle.rm_base.specs.Ranges.{is_statement_in_range};
+ghost use Rattle.rm_base.specs.WellFormed.{IsWellFormed};
 ghost use Rattle.rm_words.specs.Cut.{IsWordOf};
 ghost use Rattle.pool_sql.specs.declared.progress.Progress.TheVariants.{Start};
 ghost use Rattle.pool_sql.specs.Reading.{IsReadAsNone, IsReadError, ends, read_of, read_on};
@@ -62,6 +63,7 @@ pub fn read_statement(alloc: Global, text: &str) -> Result<Statement, ReadError>
     ensures refused { IfErr result (IsReadError text.now) }
     ensures read { IfOk result (λ statement. read_of text.now ≡ Ok statement) }
     ensures read_as_none { IfErr result (IsReadAsNone text.now) }
+    ensures well_formed { IfOk result IsWellFormed }
     ensures in_range { IfOk result (λ statement. is_statement_in_range statement ≡ true) }
 {
     let Cut { words, stuck } = cut(alloc, text.as_bytes())?;

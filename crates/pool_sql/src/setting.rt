@@ -1,5 +1,6 @@
 ghost use Rattle.std.specs.Prelude.{◌≡◌};
-ghost use Rattle.pool_sql.specs.Setting.{is_named, is_named_pool, is_named_user, no_pool_change, no_user_change, set, set_pool, set_user};
+ghost use Rattle.rm_base.specs.WellFormed.{is_named, is_named_pool, is_named_user};
+ghost use Rattle.pool_sql.specs.Setting.{no_pool_change, no_user_change, set, set_pool, set_user};
 
 use rm_base::name::Name;
 use rm_base::refusal::Parameter;
@@ -93,7 +94,17 @@ fn set_user(change: UserChange, setting: Setting) -> UserChange
             cap_ms: Some(number),
             ..change
         },
-        _ => change,
+        Setting::MemorySize(_)
+        | Setting::MaxMemorySize(_)
+        | Setting::MaxQueryMemorySize(_)
+        | Setting::ExecutionParallelism(_)
+        | Setting::Priority(_)
+        | Setting::RuntimePriority(_)
+        | Setting::RuntimePriorityThreshold(_)
+        | Setting::QueueTimeout(_)
+        | Setting::PlannedConcurrency(_)
+        | Setting::MaxConcurrency(_)
+        | Setting::Cascade(_) => change,
     }
 }
 
@@ -112,7 +123,15 @@ pub fn set(statement: Statement, setting: Setting) -> Statement
             set_user(change, setting),
         ),
         Statement::AlterUser(name, change) => Statement::AlterUser(name, set_user(change, setting)),
-        _ => statement,
+        Statement::DropPool(_)
+        | Statement::DropUser(_)
+        | Statement::CreateRole(_)
+        | Statement::AlterRole(..)
+        | Statement::DropRole(_)
+        | Statement::GrantUsage(..)
+        | Statement::RevokeUsage(..)
+        | Statement::GrantRole(..)
+        | Statement::RevokeRole(..) => statement,
     }
 }
 
@@ -143,7 +162,17 @@ fn is_named_user(parameter: Parameter, change: &UserChange) -> bool
         Parameter::ResourcePool => change.pool.is_some(),
         Parameter::MemoryCap => change.memory_cap.is_some(),
         Parameter::RuntimeCap => change.cap_ms.is_some(),
-        _ => false,
+        Parameter::MemorySize
+        | Parameter::MaxMemorySize
+        | Parameter::MaxQueryMemorySize
+        | Parameter::ExecutionParallelism
+        | Parameter::Priority
+        | Parameter::RuntimePriority
+        | Parameter::RuntimePriorityThreshold
+        | Parameter::QueueTimeout
+        | Parameter::PlannedConcurrency
+        | Parameter::MaxConcurrency
+        | Parameter::Cascade => false,
     }
 }
 
@@ -158,6 +187,14 @@ pub fn is_named(parameter: Parameter, statement: &Statement) -> bool
         Statement::CreateUser(_, change) | Statement::AlterUser(_, change) => {
             is_named_user(parameter, change)
         }
-        _ => false,
+        Statement::DropPool(_)
+        | Statement::DropUser(_)
+        | Statement::CreateRole(_)
+        | Statement::AlterRole(..)
+        | Statement::DropRole(_)
+        | Statement::GrantUsage(..)
+        | Statement::RevokeUsage(..)
+        | Statement::GrantRole(..)
+        | Statement::RevokeRole(..) => false,
     }
 }

@@ -1,8 +1,8 @@
 ghost use Rattle.std.specs.Prelude.{◌≡◌};
 ghost use Rattle.pool_sql.specs.Printed.{level_text, priority_value, value_in, value_or};
 
-use crate::amount::KIBI;
 use crate::setting::Setting;
+use rm_base::limits::KIBI;
 use rm_base::name::Name;
 use rm_base::statement::{Level, Size};
 use std::fmt;

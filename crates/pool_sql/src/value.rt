@@ -2,7 +2,7 @@ ghost use Rattle.std.specs.Prelude.{◌≡◌};
 ghost use Rattle.rm_words.specs.Token.{seen};
 ghost use Rattle.pool_sql.specs.Value.{defaults, is_auto, is_default, is_none, level_of, memory_size_of, negative_of, optional_name, optional_size, parallelism_of, priority_of, queue_timeout_of, runtime_cap_of, stop_of, threshold_of, value_of};
 
-use crate::amount::{number_of, size_of, span_of, timeout_of};
+use crate::amount::{number_between, size_of, span_of, timeout_of};
 use crate::names::name_of;
 use crate::setting::Setting;
 use crate::stop::{Fault, Stop};
@@ -81,7 +81,7 @@ fn parallelism_of(parameter: Parameter, none: bool, token: &Token) -> Result<Opt
     if none {
         return Ok(None);
     }
-    match number_of(1, u64::from(CONCURRENCY_MOST), token) {
+    match number_between(1, u64::from(CONCURRENCY_MOST), token) {
         Ok(number) => Ok(Some(number as u32)),
         Err(fault) => Err(stop_of(parameter, fault)),
     }
@@ -96,7 +96,7 @@ fn priority_of(token: &Token) -> Result<i32, Stop>
     if is_default(token) {
         return Ok(defaults().priority);
     }
-    match number_of(0, PRIORITY_MOST as u64, token) {
+    match number_between(0, PRIORITY_MOST as u64, token) {
         Ok(number) => Ok(number as i32),
         Err(fault) => Err(stop_of(Parameter::Priority, fault)),
     }
@@ -106,7 +106,7 @@ fn priority_of(token: &Token) -> Result<i32, Stop>
 pub fn negative_of(token: &Token) -> Result<i32, Stop>
     ensures { result ≡ negative_of (seen token.now) }
 {
-    match number_of(0, PRIORITY_MOST as u64, token) {
+    match number_between(0, PRIORITY_MOST as u64, token) {
         Ok(number) => Ok(-(number as i32)),
         Err(fault) => Err(stop_of(Parameter::Priority, fault)),
     }
@@ -134,7 +134,7 @@ fn threshold_of(token: &Token) -> Result<u32, Stop>
     if is_default(token) {
         return Ok(defaults().threshold_s);
     }
-    match number_of(0, u64::from(THRESHOLD_SECONDS_MOST), token) {
+    match number_between(0, u64::from(THRESHOLD_SECONDS_MOST), token) {
         Ok(number) => Ok(number as u32),
         Err(fault) => Err(stop_of(Parameter::RuntimePriorityThreshold, fault)),
     }

@@ -9,7 +9,7 @@ use Rattle.rm_base.specs.Name.{name_text, padded, name_kept, name_of}
 use Rattle.rm_base.proofs.NameLemmas.{IsNameText-from, bare_continues, text_in-padded, keeps_name-padded}
 use Rattle.rm_base.proofs.Names.{name_text-eq}
 
-name_kept-same : (bytes : List ℕ) (keeps : Bool) (is : keeps_name bytes ≡ keeps) (name : Name) → keeps_name bytes ≡ true → text_in bytes ≡ name_text name → Some name ≡ name_kept bytes keeps is
+pub name_kept-same : (bytes : List ℕ) (keeps : Bool) (is : keeps_name bytes ≡ keeps) (name : Name) → keeps_name bytes ≡ true → text_in bytes ≡ name_text name → Some name ≡ name_kept bytes keeps is
 name_kept-same bytes true is name kept texts = ap Some (name_text-eq name (record { bytes = bytes; kept = is }) (sym texts))
 name_kept-same bytes false is name kept texts = absurd (false≢true (sym is ∙ kept))
 

@@ -1,6 +1,5 @@
-use Rattle.std.specs.Prelude.{◌≡◌, ◌≢◌, ◌+◌, ◌≤◌, ℕ, Bool, true, false, List, [], length, take, drop, Option, Some, None, ⊤, ◌⊎◌}
+use Rattle.std.specs.Prelude.{◌≡◌, ◌≢◌, ◌+◌, ℕ, Bool, true, false, List, [], length, take, drop, Option, Some, None, ⊤, ◌⊎◌}
 use Rattle.std.specs.Io.KnownBytes.{Keeps, Appends}
-use Rattle.rm_base.specs.declared.limits.TheConstants.{SPOOL_FILE_MOST}
 use Rattle.rm_outside.specs.Faults.{counted}
 
 -- what a spool tells of its files, by their numbers
@@ -48,7 +47,6 @@ pub record Creates (old new : Files) (number : ℕ) : Type 0 where
 pub record Extends (old new : Files) (number : ℕ) (piece : List ℕ) : Type 0 where
   pub is_live : new.is_live number ≡ true
   pub size : new.size number ≡ old.size number + length piece
-  pub fits : new.size number ≤ SPOOL_FILE_MOST
   pub bytes : Appends (old.bytes number) (new.bytes number) piece
   pub others : OthersStay old new number
 

@@ -1,4 +1,4 @@
-ghost use Rattle.std.specs.Prelude.{◌≡◌, ◌≤◌, ℕ, Option, Some, IfSome, IfOk, OnOk, OnErr, OnSome};
+ghost use Rattle.std.specs.Prelude.{◌≡◌, ◌≤◌, ℕ, Option, Some, IsSome, IfSome, IfOk, OnOk, OnErr};
 ghost use Rattle.rm_base.specs.declared.limits.TheConstants.{MEMORY_LEAST, MEMORY_MOST, CORES_MOST};
 ghost use Rattle.rm_outside.specs.Faults.{HasCause};
 ghost use Rattle.rm_outside.specs.Ranges.{IsInRange};
@@ -28,15 +28,16 @@ pub trait Keeper {
         requires cores_least { 1 ≤ cores }
         requires cores_most { cores ≤ CORES_MOST }
         ensures machine { IfOk result (λ definitions. IsNewlyLoaded definitions memory cores) }
-        ensures rows { IfOk result (λ definitions. IfSome (stored self.old) (λ rows.
+        ensures rows { IfOk result (λ definitions. IfSome (stored self.new) (λ rows.
             definitions ≡ restored rows memory cores)) }
-        ensures stays { stored self.new ≡ stored self.old }
+        ensures stays { IfSome (stored self.new) (λ rows. stored self.old ≡ Some rows) }
         ensures cause { HasCause (faults self.old) (faults self.new) result };
 
     /// Stores the rows of `next` in the place of those that are stored.
     fn commit(&mut self, alloc: Global, next: &Definitions) -> Result<(), Outside>
         requires { IsInRange next.now }
-        ensures ok { OnOk result (OnSome (stored self.old) (stored self.new ≡ Some (rows_of next.now))) }
-        ensures err { OnErr result (stored self.new ≡ stored self.old) }
+        ensures ok { OnOk result (IfSome (stored self.new) (λ rows. rows ≡ rows_of next.now)) }
+        ensures err { OnErr result (IfSome (stored self.new) (λ rows. stored self.old ≡ Some rows)) }
+        ensures told { IsSome (stored self.new) → IsSome (stored self.old) }
         ensures cause { HasCause (faults self.old) (faults self.new) result };
 }

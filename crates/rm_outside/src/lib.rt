@@ -16,5 +16,3 @@ pub mod shelf;
 pub mod sink;
 pub mod source;
 pub mod spool;
-#[cfg(test)]
-mod tests;

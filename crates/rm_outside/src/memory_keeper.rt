@@ -22,7 +22,7 @@ impl Model for MemoryKeeper {
 }
 
 impl MemoryKeeper {
-    ghost use Rattle.rm_outside.specs.Stored.{fresh_rows};
+    ghost use Rattle.rm_outside.specs.Stored.{StoredRows, fresh_rows};
 
     /// A fresh store.
     pub fn new() -> MemoryKeeper
@@ -31,6 +31,11 @@ impl MemoryKeeper {
     {
         MemoryKeeper { committed: None }
     }
+
+    /// A store in memory always tells its rows.
+    pub fn always_tells()
+        ensures { (rows : StoredRows) → ⟦<MemoryKeeper as Keeper>⟧.stored rows ≡ Some rows }
+    {}
 }
 
 impl Keeper for MemoryKeeper {

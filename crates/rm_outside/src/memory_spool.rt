@@ -1,6 +1,6 @@
-ghost use Rattle.std.specs.Prelude.{◌≡◌, ◌≤◌, ◌++◌, [], Some, None, length, min, take, drop, refl, IsSome, OnOk, OnErr, unwrap_or};
+ghost use Rattle.std.specs.Prelude.{◌≡◌, ◌≤◌, ◌++◌, [], Some, None, length, min, take, drop, refl, IsTrue, OnOk, OnErr, unwrap_or};
 ghost use Rattle.rm_base.specs.declared.limits.TheConstants.{SPOOL_FILE_MOST};
-ghost use Rattle.rm_outside.specs.Slots.{files_of};
+ghost use Rattle.rm_outside.specs.Slots.{is_file};
 
 use crate::copy::copy_front;
 use crate::outside::Outside;
@@ -49,10 +49,10 @@ impl Slot {
     }
 
     fn append(&mut self, piece: &[u8]) -> Result<(), AllocError>
-        requires { IsSome self.old }
+        requires { IsTrue (is_file self.old) }
         ensures ok { OnOk result (self.new ≡ Some (unwrap_or self.old [] ++ piece.now)) }
         ensures err { OnErr result (self.new ≡ self.old) }
-        ensures fits { length (unwrap_or self.new []) ≤ SPOOL_FILE_MOST }
+        ensures live { IsTrue (is_file self.new) }
     {
         match &mut self.bytes {
             Some(bytes) => bytes.extend_from_slice(piece),
@@ -63,7 +63,6 @@ impl Slot {
     fn read(&self, at: u64, into: &mut [u8]) -> usize
         ensures count { result ≡ min (length (drop at (unwrap_or self.now []))) (length into.old) }
         ensures copied { into.new ≡ take result (drop at (unwrap_or self.now [])) ++ drop result into.old }
-        ensures fits { length (unwrap_or self.now []) ≤ SPOOL_FILE_MOST }
     {
         match &self.bytes {
             Some(bytes) => {
@@ -94,6 +93,9 @@ impl MemorySpool {
 }
 
 impl Spool for MemorySpool {
+    ghost use Rattle.std.proofs.Common.{rules};
+    ghost use Rattle.rm_outside.specs.Slots.{files_of};
+
     ghost faults = { λ _. 0 };
 
     ghost calls = { λ s. s.calls };
@@ -103,6 +105,8 @@ impl Spool for MemorySpool {
     ghost files = { λ s. files_of s.slots };
 
     ghost sizes_are_lengths = { λ _ _ _. refl };
+
+    ghost sizes_fit = { λ s number. Prim.search rules };
 
     fn faults(&self) -> u64 {
         0

@@ -62,7 +62,6 @@ pub trait Spool {
         ensures count { IfOk result (λ n. n ≡ min (length into.new) ((files self.old).size id.0 - at)) }
         ensures bytes { IfOk result (λ n. IsPart ((files self.old).bytes id.0) at (take n into.new)) }
         ensures stays { FilesStay (files self.old) (files self.new) }
-        ensures size { (files self.new).size id.0 ≤ SPOOL_FILE_MOST }
         ensures one_call { calls self.new ≡ counted (calls self.old) 1 }
         ensures none_written { written self.new ≡ written self.old }
         ensures cause { HasCause (faults self.old) (faults self.new) result };
@@ -79,4 +78,8 @@ pub trait Spool {
     // Where the bytes of a live file are told, its length is theirs.
     ghost sizes_are_lengths: { (spool : Self) (number : ℕ) → IsTrue ((files spool).is_live number)
         → IfSome ((files spool).bytes number) (λ bytes. length bytes ≡ (files spool).size number) };
+
+    // No live file is longer than a file may be.
+    ghost sizes_fit: { (spool : Self) (number : ℕ) → IsTrue ((files spool).is_live number)
+        → (files spool).size number ≤ SPOOL_FILE_MOST };
 }

@@ -5,7 +5,7 @@ use Rattle.std.specs.Int.{IsInRange}
 use Rattle.std.proofs.lemmas.Bool.Decides.{nat_tests}
 use Rattle.rm_words.specs.declared.class.Class.{Class}
 use Rattle.rm_words.specs.declared.class.Class.TheVariants.{Letter, Digit, Quote, Blank, Less, Greater, Equal, Mark, Other}
-use Rattle.rm_words.specs.Class.{class_of, is_letter, is_blank, is_mark}
+use Rattle.rm_words.specs.Class.{class_of, begins_bare, is_blank, is_mark}
 
 -- the class by the tests in their order
 chain : (a b c d e f g h : Bool) → Class
@@ -46,18 +46,18 @@ passed false false false false false false false false = tt
 -- what is known of a byte of this class
 abbrev pub Tells : ℕ → Class → Type 0
 Tells byte k =
-    Passed (is_letter byte) (is_ascii_digit byte) (byte == 39) (is_blank byte) (byte == 60) (byte == 62) (byte == 61) (is_mark byte) k
+    Passed (begins_bare byte) (is_ascii_digit byte) (byte == 39) (is_blank byte) (byte == 60) (byte == 62) (byte == 61) (is_mark byte) k
 
 pub class_tells : (byte : ℕ) (k : Class) → class_of byte ≡ k → Tells byte k
 unfolding chain
 class_tells byte k is =
     subst (λ x. Tells byte x) is
-    (passed (is_letter byte) (is_ascii_digit byte) (byte == 39) (is_blank byte) (byte == 60) (byte == 62) (byte == 61) (is_mark byte))
+    (passed (begins_bare byte) (is_ascii_digit byte) (byte == 39) (is_blank byte) (byte == 60) (byte == 62) (byte == 61) (is_mark byte))
 
 pub digit_range : (byte : ℕ) → class_of byte ≡ Digit → IsInRange 48 57 byte
 digit_range byte is = let told : is_ascii_digit byte ≡ true = class_tells byte Digit is in grind (arith, nat_tests)
 
-letter_ascii : (byte : ℕ) → is_letter byte ≡ true → byte < 128
+letter_ascii : (byte : ℕ) → begins_bare byte ≡ true → byte < 128
 letter_ascii byte told = grind (arith, nat_tests)
 
 digit_ascii : (byte : ℕ) → is_ascii_digit byte ≡ true → byte < 128

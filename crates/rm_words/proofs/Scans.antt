@@ -107,9 +107,6 @@ quoted_runs true (class.Equal ∷ ks) = dead_runs ks
 quoted_runs true (class.Mark ∷ ks) = dead_runs ks
 quoted_runs true (class.Other ∷ ks) = dead_runs ks
 
-whole_runs : (ks : List Class) (k : Class) → accepts (runs scan.Whole (k ∷ ks)) ≡ false
-whole_runs ks k = dead_runs ks
-
 less_runs : (ks : List Class) → accepts (runs scan.Less ks) ≡ is_symbol (class.Less ∷ ks)
 less_runs [] = refl
 less_runs (class.Equal ∷ []) = refl

@@ -113,22 +113,7 @@ pub inner_end_boundary : (text : List ℕ) (span : Span) → IsWordOf text span 
 inner_end_boundary text span is =
     IsCharBoundary-before_ascii text (span.end - 1) (omega (arith, is.rises, is.within)) (last_ascii text span is)
 
-quote_alone : (w : List ℕ) (c : ℕ) → w ≡ c ∷ [] → class_of c ≡ class.Quote → is_word w ≡ false
-quote_alone w c is quote = ap is_word is ∙ ap (λ k. are_word (k ∷ [])) quote
-
-pub quotes_apart : (text : List ℕ) (span : Span) → IsWordOf text span → class_of (get_or text span.start 0) ≡ class.Quote
-    → span.start + 1 < span.end
-quotes_apart text span is quote =
-    let width : (n : ℕ) × (span.start + suc n ≡ span.end) = width_of span is.rises in
-    let within : span.start < length text = omega (arith, is.rises, is.within) in
-    by width.0 (word_cons text span width.0 within width.1) width.1
-  where
-    by : (n : ℕ) → word_at text span ≡ get_or text span.start 0 ∷ take n (drop (span.start + 1) text) → span.start + suc n ≡ span.end → span.start + 1 < span.end
-    by zero cons end =
-        absurd (not_both (is_word (word_at text span)) is.word (quote_alone (word_at text span) (get_or text span.start 0) cons quote))
-    by (suc n) cons end = omega arith
-
-digit_is : (k : Class) → is_digit k ≡ true → k ≡ class.Digit
+pub digit_is : (k : Class) → is_digit k ≡ true → k ≡ class.Digit
 digit_is class.Digit h = refl
 digit_is class.Letter h = absurd cc
 digit_is class.Quote h = absurd cc

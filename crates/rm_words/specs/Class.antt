@@ -4,9 +4,9 @@ use Rattle.std.specs.Char.{is_ascii_alphabetic, is_ascii_digit}
 use Rattle.rm_words.specs.declared.class.Class.{Class}
 use Rattle.rm_words.specs.declared.class.Class.TheVariants.{Letter, Digit, Quote, Blank, Less, Greater, Equal, Mark, Other}
 
--- a letter of ASCII or `_`
-abbrev pub is_letter : ℕ → Bool
-is_letter c = is_ascii_alphabetic c || (c == 95)
+-- a letter of ASCII or `_`, with which a bare word begins
+abbrev pub begins_bare : ℕ → Bool
+begins_bare c = is_ascii_alphabetic c || (c == 95)
 
 -- a space, a tab, a CR or an LF
 abbrev pub is_blank : ℕ → Bool
@@ -19,7 +19,7 @@ is_mark c =
 
 abbrev pub class_of : ℕ → Class
 class_of c =
-    if is_letter c then Letter
+    if begins_bare c then Letter
     else (if is_ascii_digit c then Digit
     else (if c == 39 then Quote
     else (if is_blank c then Blank

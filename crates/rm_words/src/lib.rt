@@ -10,6 +10,4 @@ pub mod cutting;
 pub mod laws;
 mod scan;
 pub mod spans;
-#[cfg(test)]
-mod tests;
 pub mod token;

@@ -94,7 +94,7 @@ impl Token<'_> {
 }
 
 /// The number that digits write, or the greatest `u64` where it is greater.
-fn number_of(digits: &[u8]) -> u64
+pub fn digits_value(digits: &[u8]) -> u64
     requires { AreDigits digits.now }
     ensures { result ≡ min (digits_value 10 digits.now) most }
 {
@@ -116,7 +116,7 @@ pub fn token_at<'a>(text: &'a str, span: Span) -> Token<'a>
     let word = &text[start..end];
     match class_of(text.as_bytes()[start]) {
         Class::Letter => Token::Bare(word),
-        Class::Digit => Token::Number(number_of(word.as_bytes())),
+        Class::Digit => Token::Number(digits_value(word.as_bytes())),
         Class::Quote => Token::Quoted(&text[start + 1..end - 1]),
         _ => Token::Sign(Symbol::of(word)),
     }

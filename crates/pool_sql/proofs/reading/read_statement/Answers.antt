@@ -7,7 +7,9 @@ use Rattle.pool_sql.specs.declared.progress.Progress.TheVariants.{Start}
 use Rattle.pool_sql.specs.Reading.{read_on}
 use Rattle.pool_sql.specs.Text.{SpellsText}
 use Rattle.pool_sql.proofs.Readings.{read-spells, read-is_refused}
-use Rattle.pool_sql.proofs.Texts.{spells-in_range}
+use Rattle.rm_base.proofs.WellFormed.{well_formed-in_range}
+use Rattle.rm_base.specs.WellFormed.{IsWellFormed}
+use Rattle.pool_sql.proofs.Texts.{spells-well_formed}
 use Rattle.pool_sql.proofs.reading.read_statement.Goals as goal
 
 -- what is read is the statement that the text spells
@@ -23,11 +25,18 @@ returns-in-Ok-clause-statement c =
     spelled c.args.text.now c.as_bytes.result.now c.in_ok-words.field-0 c.as_slice.result.now c.in-Ok.statement
     c.as_bytes.ensures.value c.in_ok-words.ensures.cut c.as_slice.ensures c.in-Ok.ensures
 
-pub returns-in-Ok-clause-in_range : goal.returns-in-Ok-clause-in_range
-returns-in-Ok-clause-in_range c =
-    spells-in_range c.args.text.now c.in-Ok.statement
+pub returns-in-Ok-clause-well_formed : goal.returns-in-Ok-clause-well_formed
+returns-in-Ok-clause-well_formed c =
+    spells-well_formed c.args.text.now c.in-Ok.statement
     (spelled c.args.text.now c.as_bytes.result.now c.in_ok-words.field-0 c.as_slice.result.now c.in-Ok.statement
     c.as_bytes.ensures.value c.in_ok-words.ensures.cut c.as_slice.ensures c.in-Ok.ensures)
+
+pub returns-in-Ok-clause-in_range : goal.returns-in-Ok-clause-in_range
+returns-in-Ok-clause-in_range c =
+    well_formed-in_range c.in-Ok.statement
+    (spells-well_formed c.args.text.now c.in-Ok.statement
+    (spelled c.args.text.now c.as_bytes.result.now c.in_ok-words.field-0 c.as_slice.result.now c.in-Ok.statement
+    c.as_bytes.ensures.value c.in_ok-words.ensures.cut c.as_slice.ensures c.in-Ok.ensures))
 
 pub returns-clause-refused : goal.returns-clause-refused
 returns-clause-refused c =

@@ -18,8 +18,8 @@ range-requires-clause-start_boundary c = λ _. inner_start_boundary c.args.text.
 pub range-requires-clause-end_boundary : goal.range-requires-clause-end_boundary
 range-requires-clause-end_boundary c = inner_end_boundary c.args.text.now c.args.span c.requires
 
-pub number_of-requires : goal.number_of-requires
-number_of-requires c =
+pub digits_value-requires : goal.digits_value-requires
+digits_value-requires c =
     let text = c.args.text.now in
     let class_is : class_of (get_or text c.args.span.start 0) ≡ Digit = cc in
     subst AreDigits (sym (c.as_bytes-in-Digit.ensures.value ∙ c.range-word.ensures.value))

@@ -1,16 +1,16 @@
-use crate::failing_sink::FailingSink;
-use crate::failing_source::FailingSource;
-use crate::keeper::Keeper;
-use crate::memory_keeper::MemoryKeeper;
-use crate::memory_shelf::MemoryShelf;
-use crate::memory_sink::MemorySink;
-use crate::memory_source::MemorySource;
-use crate::memory_spool::MemorySpool;
-use crate::outside::Outside;
-use crate::shelf::{Shelf, ShelfError};
-use crate::sink::Sink;
-use crate::source::Source;
-use crate::spool::Spool;
+use rm_outside::failing_sink::FailingSink;
+use rm_outside::failing_source::FailingSource;
+use rm_outside::keeper::Keeper;
+use rm_outside::memory_keeper::MemoryKeeper;
+use rm_outside::memory_shelf::MemoryShelf;
+use rm_outside::memory_sink::MemorySink;
+use rm_outside::memory_source::MemorySource;
+use rm_outside::memory_spool::MemorySpool;
+use rm_outside::outside::Outside;
+use rm_outside::shelf::{Shelf, ShelfError};
+use rm_outside::sink::Sink;
+use rm_outside::source::Source;
+use rm_outside::spool::Spool;
 use std::test::Fail;
 
 #[test]

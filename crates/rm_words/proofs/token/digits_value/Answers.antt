@@ -1,7 +1,7 @@
 use Rattle.std.proofs.Common.{◌≡◌, ◌+◌, ◌-◌, ◌*◌, min, get_or}
 use Rattle.rm_words.specs.Token.{most}
 use Rattle.rm_words.proofs.Numbers.{Reads-more}
-use Rattle.rm_words.proofs.token.number_of.Goals as goal
+use Rattle.rm_words.proofs.token.digits_value.Goals as goal
 
 pub loop-byte-preserved : goal.loop-byte-preserved
 loop-byte-preserved c =

@@ -1,5 +1,0 @@
-use Rattle.rm_words.proofs.Numbers.{Reads}
-use Rattle.pool_sql.proofs.amount.digits_value.Given as goal
-
-abbrev pub invariant-loop-byte : goal.invariant-loop-byte
-invariant-loop-byte l = Reads l.digits l.byte-index l.value
