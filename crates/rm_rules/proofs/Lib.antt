@@ -7,4 +7,5 @@ pub mod AcceptanceRanges
 pub mod Known
 pub mod Sizes
 pub mod AcceptanceLaws
+pub mod Bytes
 pub mod Covering
