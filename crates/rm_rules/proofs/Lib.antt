@@ -8,4 +8,6 @@ pub mod Known
 pub mod Sizes
 pub mod AcceptanceLaws
 pub mod Bytes
+pub mod Queue
+pub mod Conserved
 pub mod Covering
