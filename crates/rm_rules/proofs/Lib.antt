@@ -10,4 +10,5 @@ pub mod AcceptanceLaws
 pub mod Bytes
 pub mod Queue
 pub mod Conserved
+pub mod Shuffling
 pub mod Covering
