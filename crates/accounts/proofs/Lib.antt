@@ -1,1 +1,4 @@
 pub mod Sums
+pub mod Places
+pub mod Keeping
+pub mod Seen

@@ -1,11 +1,22 @@
 //! Bytes, as sums over the lists of reserves and grants.
-ghost use Rattle.std.specs.Prelude.{◌≡◌, ◌<◌, ◌≤◌, ◌+◌, ◌-◌, ◌^◌, find, length, min, sum_by, if◌then◌else◌};
-ghost use Rattle.rm_base.specs.Name.{same_name, general};
-ghost use Rattle.rm_rules.specs.Accounting.{used, running_in, own, debt, unused, of_reserve, kept_back};
+ghost use Rattle.std.specs.Prelude.{◌≡◌, ◌<◌, ◌≤◌, ◌+◌, ◌-◌, ◌^◌, length, sum_by};
+ghost use Rattle.rm_base.specs.Name.{general};
+ghost use Rattle.rm_rules.specs.Accounting.{used, running_in, own, debt, kept_back};
 ghost use Rattle.accounts.specs.Sizes.{held};
 
 use rm_base::name::Name;
 use rm_rules::state::{Holding, Reserve};
+
+/// What these queries of the pool hold, as a sum that fits.
+fn sum_in(grants: &[Holding], pool: Name) -> u64
+    requires { used pool grants.now < 2 ^ 64 }
+    ensures { result ≡ used pool grants.now }
+{
+    grants
+        .iter()
+        .map(|g| if g.pool.same(pool) { g.bytes } else { 0 })
+        .sum()
+}
 
 /// What these queries of the pool hold.
 #[tactic(auto, using(crate::proofs::Sums::used_held))]
@@ -14,10 +25,7 @@ pub fn used(grants: &[Holding], pool: Name) -> u64
     ensures value { result ≡ used pool grants.now }
     ensures most { result ≤ held grants.now }
 {
-    grants
-        .iter()
-        .map(|g| if g.pool.same(pool) { g.bytes } else { 0 })
-        .sum()
+    sum_in(grants, pool)
 }
 
 /// How many of these queries run in the pool.
@@ -34,14 +42,6 @@ pub fn own(grants: &[Holding], e: &Reserve) -> u64
     ensures { result ≡ own grants.now e.now }
 {
     used(grants, e.pool).min(e.size)
-}
-
-/// How much of its own bytes the pool does not use.
-pub fn unused(grants: &[Holding], e: &Reserve) -> u64
-    requires { held grants.now < 2 ^ 64 }
-    ensures { result ≡ unused grants.now e.now }
-{
-    e.size - own(grants, e)
 }
 
 /// What the pool has borrowed beyond its own bytes.
@@ -82,11 +82,4 @@ pub fn kept_back(reserves: &[Reserve]) -> u64
     ensures { result ≡ kept_back reserves.now }
 {
     reserves.iter().map(|e| e.size).sum()
-}
-
-/// The pool's reserve; GENERAL has none.
-pub fn reserve_of(reserves: &[Reserve], pool: Name) -> Option<Reserve>
-    ensures { result ≡ find (λ e. same_name e.pool pool) reserves.now }
-{
-    reserves.iter().copied().find(|e| e.pool.same(pool))
 }

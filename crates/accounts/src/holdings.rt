@@ -2,10 +2,9 @@
 ghost use Rattle.std.specs.Prelude.{◌≡◌, ◌<◌, ◌≤◌, ◌+◌, ◌^◌, true, false, length, position, slice_index, IfOk, IfSome};
 ghost use Rattle.rm_base.specs.declared.limits.TheConstants.{MEMORY_MOST, POOLS_MOST, SESSIONS_MOST};
 ghost use Rattle.rm_rules.specs.Sound.{IsSound};
-ghost use Rattle.accounts.specs.Accounts.{is_of};
 ghost use Rattle.accounts.specs.Sizes.{held};
 
-use crate::bytes::{kept_back, lent, own, reserve_of, running_in, unused, used};
+use crate::bytes::{kept_back, lent, running_in, used};
 use crate::sizes::{fall, first_reserves, grow};
 use rm_base::bounded::Bounded;
 use rm_base::definitions::Definitions;
@@ -37,18 +36,10 @@ impl Model for Accounts {
     ghost invariant = { AreKept };
 }
 
-/// Where the query's grant stands.
-fn place_of(grants: &[Holding], query: u64) -> Option<usize>
-    ensures value { result ≡ position (is_of query) grants.now }
-    ensures within { IfSome result (λ place. place < length grants.now) }
-{
-    grants.iter().position(|g| g.query == query)
-}
-
 impl Accounts {
-    ghost use Rattle.rm_rules.specs.Accounting.{used, running_in, actual_of, own_of, unused_of, lent, free, need, account_behind};
+    ghost use Rattle.rm_rules.specs.Accounting.{used, running_in, reserve_of, actual_of, own_of, unused_of, lent, free, need, account_behind};
     ghost use Rattle.rm_rules.specs.Shuffle.{shuffled};
-    ghost use Rattle.accounts.specs.Accounts.{names_in, names_of, has_name, has_query, queries, grant_of, account_of, first_holdings, taken, given_back, with_pool};
+    ghost use Rattle.accounts.specs.Accounts.{names_in, names_of, has_name, is_of, has_query, queries, grant_of, account_of, first_holdings, taken, given_back, with_pool};
 
     /// No query runs yet. All memory that the accounts will ever use is taken here.
     pub fn new(alloc: Global, definitions: &Definitions) -> Result<Accounts, AllocError>
@@ -101,11 +92,19 @@ impl Accounts {
         self.in_force - kept_back(self.reserves.rows()) - self.lent()
     }
 
+    /// The pool's reserve; GENERAL has none.
+    fn reserve_of(&self, pool: Name) -> Option<Reserve>
+        ensures { result ≡ reserve_of self.now pool }
+    {
+        let reserves = self.reserves.rows();
+        reserves.iter().copied().find(|e| e.pool.same(pool))
+    }
+
     /// The pool's actual size; GENERAL has none.
     pub fn actual(&self, pool: Name) -> u64
         ensures { result ≡ actual_of self.now pool }
     {
-        match reserve_of(self.reserves.rows(), pool) {
+        match self.reserve_of(pool) {
             Some(e) => e.size,
             None => 0,
         }
@@ -115,8 +114,8 @@ impl Accounts {
     fn own_of(&self, pool: Name) -> u64
         ensures { result ≡ own_of self.now pool }
     {
-        match reserve_of(self.reserves.rows(), pool) {
-            Some(e) => own(self.grants.rows(), &e),
+        match self.reserve_of(pool) {
+            Some(e) => self.used(e.pool).min(e.size),
             None => 0,
         }
     }
@@ -125,8 +124,8 @@ impl Accounts {
     fn unused_of(&self, pool: Name) -> u64
         ensures { result ≡ unused_of self.now pool }
     {
-        match reserve_of(self.reserves.rows(), pool) {
-            Some(e) => unused(self.grants.rows(), &e),
+        match self.reserve_of(pool) {
+            Some(e) => e.size - self.used(e.pool).min(e.size),
             None => 0,
         }
     }
@@ -163,6 +162,15 @@ impl Accounts {
         self.grants.rows()[index as usize].query
     }
 
+    /// Where the query's grant stands.
+    fn place_of(&self, query: u64) -> Option<usize>
+        ensures value { result ≡ position (is_of query) self.now.grants }
+        ensures within { IfSome result (λ place. place < length self.now.grants) }
+    {
+        let grants = self.grants.rows();
+        grants.iter().position(|g| g.query == query)
+    }
+
     /// The account of a query that stands behind these others.
     fn account_behind(&self, before: &[Holding], g: Holding) -> Account
         requires { held before.now < 2 ^ 64 }
@@ -186,9 +194,11 @@ impl Accounts {
     pub fn account_of(&self, query: u64) -> Account
         ensures { result ≡ account_of self.now query }
     {
-        let grants = self.grants.rows();
-        match place_of(grants, query) {
-            Some(place) => self.account_behind(&grants[..place], grants[place]),
+        match self.place_of(query) {
+            Some(place) => {
+                let grants = self.grants.rows();
+                self.account_behind(&grants[..place], grants[place])
+            }
             None => Account {
                 pool: Name::general(),
                 own: 0,
@@ -217,7 +227,7 @@ impl Accounts {
         ensures state { self.new ≡ given_back self.old query }
         ensures grant { result ≡ grant_of self.old.grants query }
     {
-        match place_of(self.grants.rows(), query) {
+        match self.place_of(query) {
             Some(place) => self.grants.remove(place).bytes,
             None => 0,
         }
@@ -238,11 +248,12 @@ impl Accounts {
         requires same_pools { names_in definitions.now ≡ names_of self.old.reserves }
         ensures { self.new ≡ shuffled definitions.now self.old }
     {
-        fall(definitions, self.grants.rows(), &mut self.reserves);
+        let grants = self.grants.rows();
+        fall(definitions, grants, &mut self.reserves);
         let kept_back = kept_back(self.reserves.rows());
-        let lent = lent(self.grants.rows(), self.reserves.rows());
+        let lent = lent(grants, self.reserves.rows());
         self.in_force = total(definitions).max(kept_back + lent);
         let spare = self.in_force - kept_back - lent;
-        grow(definitions, self.grants.rows(), &mut self.reserves, spare);
+        grow(definitions, grants, &mut self.reserves, spare);
     }
 }

@@ -1,0 +1,13 @@
+use Rattle.accounts.proofs.sizes.fall.Goals as goal
+
+pub bounds-rows-i : goal.bounds-rows-i
+bounds-rows-i c = ?
+
+pub set-requires : goal.set-requires
+set-requires c = ?
+
+pub loop-i-preserved : goal.loop-i-preserved
+loop-i-preserved c = ?
+
+pub returns : goal.returns
+returns c = ?

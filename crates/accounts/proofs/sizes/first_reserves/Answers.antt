@@ -1,0 +1,4 @@
+use Rattle.accounts.proofs.sizes.first_reserves.Goals as goal
+
+pub returns : goal.returns
+returns c = ?
