@@ -13,3 +13,4 @@ pub mod Conserved
 pub mod Shuffling
 pub mod Defining
 pub mod Covering
+pub mod Rests
