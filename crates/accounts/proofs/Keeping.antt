@@ -1,32 +1,59 @@
 -- What each call keeps of the accounts.
-use Rattle.std.proofs.Common.{◌≡◌, ◌≤◌, ◌<◌, ℕ, ◌+◌, Bool, true, false, ◌||◌, not, cond, List, [], ◌∷◌, ◌++◌, refl, ap, sym, subst, ◌∙◌, arith, sum_by, count_by, nat_eq}
+use Rattle.std.proofs.Common.{◌≡◌, ◌≤◌, ◌<◌, ℕ, ◌+◌, Bool, true, false, ◌||◌, not, cond, List, [], ◌∷◌, ◌++◌, map, refl, ap, sym, subst, ◌∙◌, arith, sum_by, count_by, nat_eq}
 use Rattle.std.specs.List.{list_any, list_all}
 use Rattle.std.proofs.lemmas.Bool.{false≢true}
 use Rattle.std.proofs.lemmas.Bool.Decides.{nat_tests}
-use Rattle.std.proofs.lemmas.List.Folds.{list_any-append}
+use Rattle.std.proofs.lemmas.List.{length-map}
 use Rattle.std.proofs.lemmas.List.Sums.{sum_by-cons, sum_by_push}
 use Rattle.rm_base.specs.declared.limits.TheConstants.{MEMORY_MOST}
 use Rattle.rm_base.specs.declared.definitions.Definitions.{Definitions}
+use Rattle.rm_base.specs.declared.rows.PoolRow.{PoolRow}
 use Rattle.rm_base.specs.declared.name.Name.{Name}
 use Rattle.rm_base.specs.Name.{same_name, general}
 use Rattle.rm_base.proofs.Names.{same_name-eq, same_name-sym}
 use Rattle.rm_rules.specs.declared.state.Holding.{Holding}
 use Rattle.rm_rules.specs.declared.state.Reserve.{Reserve}
-use Rattle.rm_rules.specs.Holdings.{Holdings}
+use Rattle.rm_rules.specs.Definitions.{total, user_pools}
+use Rattle.rm_rules.specs.Holdings.{Holdings, reserves_of}
 use Rattle.rm_rules.specs.State.{without}
-use Rattle.rm_rules.specs.Accounting.{held_in, used, debt, lent, free, need, taken_up}
+use Rattle.rm_rules.specs.Accounting.{held_in, used, debt, kept_back, lent, free, need, taken_up}
 use Rattle.rm_rules.specs.Shuffle.{fallen, with_force, shuffled}
 use Rattle.rm_rules.specs.Sound.{IsSound, are_distinct}
-use Rattle.rm_rules.proofs.Bytes.{AreNamed, lent-push, lent-less}
+use Rattle.rm_rules.proofs.Bytes.{AreNamed, reserve_names-of, lent-push, lent-less}
 use Rattle.rm_rules.proofs.Conserved.{granted-within}
 use Rattle.rm_rules.proofs.Covering.{covered-start}
-use Rattle.rm_rules.proofs.Pools.{pool_names}
-use Rattle.rm_rules.proofs.Shuffling.{grown-whole, left_over-most, force-shuffle, shuffle-names}
+use Rattle.rm_rules.proofs.Pools.{names, pool_names}
+use Rattle.rm_rules.proofs.Shuffling.{grown-whole, force-shuffle, shuffle-names}
 use Rattle.rm_rules.proofs.Sizes.{sound_memory_most}
 use Rattle.rm_rules.proofs.Taken.{and_left, and_right, and_both, or_left_false, or_right_false, or_both_false, not_false, all_push, all_without, count_without}
 use Rattle.accounts.specs.Accounts.{names_of, has_name, is_of, first_holdings, taken, given_back, with_pool}
 use Rattle.accounts.specs.Kept.{IsKept}
+use Rattle.accounts.specs.Sizes.{fallen_reserves}
 use Rattle.accounts.proofs.Sums.{sum_without_le}
+
+-- the start
+kept_first : (d : Definitions) → IsSound d → IsKept (first_holdings d)
+kept_first d sound =
+    let rows = user_pools d.pools in
+    let sizes = map (λ (r : PoolRow). r.memory) rows in
+    let same : general ∷ names_of (reserves_of rows sizes) ≡ names d.pools =
+    ap (λ (ns : List Name). general ∷ ns) (reserve_names-of rows sizes (length-map rows (λ (r : PoolRow). r.memory))) ∙ sym (pool_names d.pools sound.general_first) in
+    let covered = covered-start d 0 sound in
+    record {
+      names_distinct = ap are_distinct same ∙ sound.pools_distinct;
+      queries_distinct = λ query. omega arith;
+      known = refl;
+      within = covered.held.within;
+      granted = covered.held.granted;
+      in_force_most = omega (arith, sound.total_most, sound_memory_most d sound);
+    }
+
+pub kept_new : (d : Definitions) (pools : List PoolRow) (a : Holdings) → IsSound d → pools ≡ d.pools → a.in_force ≡ total d
+    → a.reserves ≡ reserves_of (user_pools pools) (map (λ r. r.memory) (user_pools pools)) → a.grants ≡ [] → IsKept a
+kept_new d pools a sound is force reserves grants =
+    let sized = reserves ∙ ap (λ (rows : List PoolRow). reserves_of (user_pools rows) (map (λ (r : PoolRow). r.memory) (user_pools rows))) is in
+    let same : a ≡ first_holdings d = λ i. record { in_force = force i; reserves = sized i; grants = grants i } in
+    subst IsKept (sym same) (kept_first d sound)
 
 -- one query more
 count-turn : (query : ℕ) (x : Holding) (gs : List Holding) (b : Bool) → is_of query x ≡ b → (b ≡ true → count_by (is_of query) gs ≡ 0) → count_by (is_of query) gs ≤ 1
@@ -152,8 +179,14 @@ kept_with_pool h pool k absent =
     }
 
 -- the shuffle
-pub fallen-most : (d : Definitions) (h : Holdings) → IsSound d → IsKept h → taken_up (fallen d h) ≤ MEMORY_MOST
-fallen-most d h sound k = omega (arith, force-shuffle d h k.within, k.in_force_most, sound.total_most, sound_memory_most d sound)
+pub fallen-fits : (d : Definitions) (h : Holdings) (grants : List Holding) (fell : List Reserve) → IsSound d → IsKept h → grants ≡ h.grants → fell ≡ fallen_reserves d grants h.reserves
+    → kept_back fell + (used general grants + sum_by (debt grants) fell) ≤ MEMORY_MOST
+fallen-fits d h grants fell sound k running falls =
+    let most : taken_up (fallen d h) ≤ MEMORY_MOST = omega (arith, force-shuffle d h k.within, k.in_force_most, sound.total_most, sound_memory_most d sound) in
+    let same : fell ≡ fallen_reserves d h.grants h.reserves = falls ∙ ap (λ (gs : List Holding). fallen_reserves d gs h.reserves) running in
+    let up : kept_back fell + (used general grants + sum_by (debt grants) fell) ≡ taken_up (fallen d h) =
+    λ i. kept_back (same i) + (used general (running i) + sum_by (debt (running i)) (same i)) in
+    omega (arith, most, up)
 
 pub kept_shuffled : (d : Definitions) (h : Holdings) → IsSound d → IsKept h → IsKept (shuffled d h)
 kept_shuffled d h sound k =

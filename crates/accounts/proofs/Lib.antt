@@ -1,4 +1,5 @@
 pub mod Sums
 pub mod Places
+pub mod Turns
 pub mod Keeping
 pub mod Seen

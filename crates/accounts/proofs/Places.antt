@@ -1,8 +1,8 @@
 -- Pools by their places, and a list that is changed from place to place.
-use Rattle.std.proofs.Common.{◌≡◌, ◌<◌, ℕ, ◌+◌, suc, Bool, true, false, not, cond, List, [], ◌∷◌, ◌++◌, length, map, take, drop, set, get_or, Some, Option, refl, sym, ap, ◌∙◌, subst, arith, append_assoc, add-one, drop-cons}
+use Rattle.std.proofs.Common.{◌≡◌, ◌<◌, ◌≤◌, ℕ, ◌+◌, zero, suc, Bool, true, false, not, cond, List, [], ◌∷◌, ◌++◌, length, map, take, drop, set, get_or, Some, Option, refl, sym, ap, ◌∙◌, subst, arith, append_assoc, append-nil, drop-cons}
 use Rattle.std.specs.List.{find, list_any}
 use Rattle.std.proofs.lemmas.Bool.{false≢true}
-use Rattle.std.proofs.lemmas.List.{length-map, take_more_set, drop-set-lt}
+use Rattle.std.proofs.lemmas.List.{length-map, take_more_set, drop-set-lt, take_all, drop_all}
 use Rattle.rm_base.specs.declared.definitions.Definitions.{Definitions}
 use Rattle.rm_base.specs.declared.rows.PoolRow.{PoolRow}
 use Rattle.rm_base.specs.declared.name.Name.{Name}
@@ -27,6 +27,14 @@ in_place {A} f g xs all i x y within at turn so_far =
     ∙ append_assoc (take i xs) (y ∷ []) (g (drop (i + 1) (set xs i y)))
     ∙ ap (λ l. take i xs ++ (y ∷ g l)) (drop-set-lt (i + 1) xs i y (omega arith))
     ∙ ap (λ l. take i xs ++ l) (sym turn ∙ ap f (sym here))
+    ∙ so_far
+
+-- at its end nothing is left to do
+pub all_done : {A : Type 0} (f : List A → List A) (xs all : List A) (i : ℕ) → length xs ≤ i → f [] ≡ [] → take i xs ++ f (drop i xs) ≡ all → xs ≡ all
+all_done f xs all i past none so_far =
+    sym (append-nil xs)
+    ∙ ap (λ l. l ++ []) (sym (take_all i xs past))
+    ∙ ap (λ l. take i xs ++ l) (sym (ap f (drop_all i xs past) ∙ none))
     ∙ so_far
 
 -- another size leaves the names
@@ -83,15 +91,15 @@ memory-at d rows es i row e sound is same within at_row at_e =
     let at : row ≡ get_or (user_pools d.pools) i row = at_row ∙ ap (λ (l : List PoolRow). get_or l i row) is in
     let name = name-at (user_pools d.pools) es i row e same inside at at_e in
     let called : pool_called d.pools e.pool ≡ Some row = ap (pool_called d.pools) name ∙ behind-general d.pools i row sound.pools_distinct inside at in
-    let found : memory_of d e.pool ≡ row.memory = rw called refl in
+    let found : memory_of d e.pool ≡ row.memory = rw (called, memory_of) refl in
     sym found
 
 -- there is a reserve in each place
 pub lengths-same : (d : Definitions) (rows : List PoolRow) (es : List Reserve) → rows ≡ user_pools d.pools → names_in d ≡ names_of es → length es ≡ length rows
 lengths-same d rows es is same =
-    sym (length-map (λ (e : Reserve). e.pool) es)
+    sym (length-map es (λ (e : Reserve). e.pool))
     ∙ ap (λ (l : List Name). length l) (sym same)
-    ∙ length-map (λ (r : PoolRow). r.name) (user_pools d.pools)
+    ∙ length-map (user_pools d.pools) (λ (r : PoolRow). r.name)
     ∙ ap (λ (l : List PoolRow). length l) (sym is)
 
 -- each pool at its MEMORYSIZE
