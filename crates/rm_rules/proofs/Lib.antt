@@ -7,3 +7,10 @@ pub mod AcceptanceRanges
 pub mod Known
 pub mod Sizes
 pub mod AcceptanceLaws
+pub mod Bytes
+pub mod Queue
+pub mod Conserved
+pub mod Shuffling
+pub mod Defining
+pub mod Covering
+pub mod Rests
