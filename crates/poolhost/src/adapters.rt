@@ -92,3 +92,59 @@ impl<W: Write + Drop> Sink for WriterSink<W> {
         Err(Outside::Failed)
     }
 }
+
+#[cfg(test)]
+mod tests {
+    use super::{ReaderSource, WriterSink};
+    use rm_outside::outside::Outside;
+    use rm_outside::sink::Sink;
+    use rm_outside::source::Source;
+    use std::io;
+    use std::test::Fail;
+
+    /// A stream that fails at once.
+    #[derive(Drop)]
+    struct Broken;
+
+    impl io::Read for Broken {
+        fn read(&mut self, _into: &mut [u8]) -> io::Result<usize> {
+            Err(io::Error::from(io::ErrorKind::BrokenPipe))
+        }
+    }
+
+    impl io::Write for Broken {
+        fn write(&mut self, _bytes: &[u8]) -> io::Result<usize> {
+            Err(io::Error::from(io::ErrorKind::BrokenPipe))
+        }
+
+        fn flush(&mut self) -> io::Result<()> {
+            Ok(())
+        }
+    }
+
+    #[test]
+    fn adapts_a_reader(rt: HostRuntime) -> Result<(), Fail> {
+        let mut into = [0; 4];
+        let mut good = ReaderSource::new(b"ab".as_slice());
+        assert_eq!(rt; good.read(&mut into), Ok(2));
+        assert_eq!(rt; &into[..2], b"ab".as_slice());
+        assert_eq!(rt; good.read(&mut into), Ok(0));
+        assert_eq!(rt; good.faults(), 0);
+        let mut broken = ReaderSource::new(Broken);
+        assert_eq!(rt; broken.read(&mut into), Err(Outside::Failed));
+        assert_eq!(rt; broken.faults(), 1);
+        Ok(())
+    }
+
+    #[test]
+    fn adapts_a_writer(rt: HostRuntime) -> Result<(), Fail> {
+        let mut good = WriterSink::new(Vec::new(rt.alloc()));
+        assert_eq!(rt; good.write(b"ab"), Ok(2));
+        assert_eq!(rt; good.faults(), 0);
+        let mut broken = WriterSink::new(Broken);
+        assert_eq!(rt; broken.write(b"ab"), Err(Outside::Failed));
+        assert_eq!(rt; broken.write(b""), Ok(0));
+        assert_eq!(rt; broken.faults(), 1);
+        Ok(())
+    }
+}

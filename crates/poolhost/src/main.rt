@@ -2,29 +2,13 @@
 #![tactic(auto)]
 
 mod adapters;
-mod command;
-mod comments;
-mod ended;
-mod input;
-mod lines;
-mod names;
-mod numbers;
-mod options;
-mod output;
-mod run;
-mod script;
-mod script_main;
-mod status;
-#[cfg(test)]
-mod tests;
-mod texts;
-mod words;
 
 use adapters::{ReaderSource, WriterSink};
 use rm_outside::memory_keeper::MemoryKeeper;
 use rm_outside::memory_shelf::MemoryShelf;
 use rm_outside::memory_spool::MemorySpool;
-use status::{DONE, NO_MEMORY, Status, USAGE, WRITE_FAULT};
+use sessions::script_main::script_main;
+use sessions::status::{DONE, NO_MEMORY, Status, USAGE, WRITE_FAULT};
 use std::alloc::Global;
 use std::env;
 use std::io::{self, ErrorKind};
@@ -64,7 +48,7 @@ fn run_script(rt: &HostRuntime, alloc: Global, words: &[String]) -> Status {
     let mut keeper = MemoryKeeper::new();
     let mut shelf = MemoryShelf::new(alloc);
     let mut spool = MemorySpool::new(alloc);
-    script_main::script_main(
+    script_main(
         alloc,
         words,
         &mut input,

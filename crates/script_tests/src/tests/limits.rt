@@ -1,0 +1,123 @@
+//! Scripts at their limits and one past them.
+
+use super::{USUAL, run, status_over};
+use rm_outside::memory_sink::MemorySink;
+use rm_outside::memory_source::MemorySource;
+use rm_outside::source::Source;
+use std::alloc::Global;
+use std::process::Abort;
+use std::test::Fail;
+
+/// So many times the same line.
+fn repeated(alloc: Global, line: &[u8], times: usize) -> Result<Vec<u8>, Fail> {
+    let mut script = Vec::new(alloc);
+    for _ in 0..times {
+        script.extend_from_slice(line)?;
+    }
+    Ok(script)
+}
+
+/// Runs a script that prints this alone.
+fn prints(
+    rt: &impl Abort,
+    alloc: Global,
+    script: &[u8],
+    status: u8,
+    text: &[u8],
+) -> Result<(), Fail> {
+    let (got, out) = run(alloc, USUAL, script)?;
+    assert_eq!(rt; got, status, "the status of {} bytes", script.len());
+    assert_eq!(rt; out.contents(), text, "the text of {} bytes", script.len());
+    Ok(())
+}
+
+#[test]
+fn a_script_has_so_many_lines(rt: HostRuntime) -> Result<(), Fail> {
+    let alloc = rt.alloc();
+    prints(&rt, alloc, &repeated(alloc, b"#\n", 4_096)?, 0, b"")?;
+    prints(&rt, alloc, &repeated(alloc, b"#\n", 4_097)?, 2, b"bad line 4097\n")
+}
+
+#[test]
+fn a_line_has_so_many_bytes(rt: HostRuntime) -> Result<(), Fail> {
+    let alloc = rt.alloc();
+    let mut line = repeated(alloc, b"#", 65_536)?;
+    prints(&rt, alloc, &line, 0, b"")?;
+    line.extend_from_slice(b"\r\nopen a dbadmin\n")?;
+    prints(&rt, alloc, &line, 0, b"a opened 1\n")?;
+    prints(&rt, alloc, &repeated(alloc, b"#", 65_537)?, 2, b"bad line 1\n")
+}
+
+/// Lines of these texts, each with the numbers from 1 on between them.
+fn numbered(alloc: Global, before: &str, after: &str, most: u32) -> Result<String, Fail> {
+    let mut script = String::new(alloc);
+    for n in 1..=most {
+        script.push_str(format!(in alloc; "{before}{n}{after}\n")?.as_str())?;
+    }
+    Ok(script)
+}
+
+#[test]
+fn so_many_sessions_are_open(rt: HostRuntime) -> Result<(), Fail> {
+    let script = numbered(rt.alloc(), "open s", " dbadmin", 129)?;
+    let (status, out) = run(rt.alloc(), USUAL, script.as_bytes())?;
+    assert_eq!(rt; status, 2);
+    assert!(rt; out.contents().ends_with(b"s128 opened 128\nbad line 129\n"));
+    Ok(())
+}
+
+/// GENERAL is the first of 64 pools.
+#[test]
+fn so_many_pools_are_there(rt: HostRuntime) -> Result<(), Fail> {
+    let script = numbered(rt.alloc(), "sql CREATE RESOURCE POOL p", "", 64)?;
+    let (status, out) = run(rt.alloc(), USUAL, script.as_bytes())?;
+    assert_eq!(rt; status, 0);
+    assert!(rt; out.contents().ends_with(b"ok\nok\nrefused 17 pools 64\n"));
+    Ok(())
+}
+
+/// A script of 64 MiB is read whole, and its one line is too long.
+#[test]
+fn a_script_has_so_many_bytes(rt: HostRuntime) -> Result<(), Fail> {
+    let alloc = rt.alloc();
+    prints(&rt, alloc, &vec![in alloc; b'#'; 67_108_864]?, 2, b"bad line 1\n")
+}
+
+/// One byte more is read, and no second one.
+#[test]
+fn a_longer_script_is_not_run(rt: HostRuntime) -> Result<(), Fail> {
+    let alloc = rt.alloc();
+    let mut input = MemorySource::new(vec![in alloc; b'\n'; 67_108_866]?);
+    let mut out = MemorySink::new(alloc);
+    let status = status_over(alloc, USUAL, &mut input, &mut out)?;
+    assert_eq!(rt; status, 8);
+    assert_eq!(rt; out.contents(), b"".as_slice());
+    assert_eq!(rt; input.read(&mut [0; 2]), Ok(1));
+    Ok(())
+}
+
+/// Words that are none leave the input as it is.
+#[test]
+fn without_words_nothing_is_read(rt: HostRuntime) -> Result<(), Fail> {
+    let alloc = rt.alloc();
+    let mut input = MemorySource::new(b"open a dbadmin\n".to_vec(alloc)?);
+    let mut out = MemorySink::new(alloc);
+    let status = status_over(alloc, "script --memory 100M", &mut input, &mut out)?;
+    assert_eq!(rt; status, 1);
+    assert_eq!(rt; out.contents(), b"".as_slice());
+    assert_eq!(rt; input.read(&mut [0; 16]), Ok(15));
+    Ok(())
+}
+
+/// The input is read to its end also where the first line is bad.
+#[test]
+fn behind_a_bad_line_all_is_read(rt: HostRuntime) -> Result<(), Fail> {
+    let alloc = rt.alloc();
+    let mut input = MemorySource::new(repeated(alloc, b"frob\n", 10_000)?);
+    let mut out = MemorySink::new(alloc);
+    let status = status_over(alloc, USUAL, &mut input, &mut out)?;
+    assert_eq!(rt; status, 2);
+    assert_eq!(rt; out.contents(), b"bad line 1\n".as_slice());
+    assert_eq!(rt; input.read(&mut [0; 1]), Ok(0));
+    Ok(())
+}

@@ -1,0 +1,62 @@
+-- What `parse` reads, as a number of digits alone.
+use Rattle.std.proofs.Common.{◌≡◌, ◌≢◌, ℕ, ◌^◌, ◌<◌, ◌≤◌, Bool, true, false, ◌&&◌, cond, nat_lt, leb, Decides, None, Some, Result, Ok, Err, List, length, get_or, refl, sym, ap, ◌∙◌, arith}
+use Rattle.std.proofs.lemmas.Bool.{false≢true}
+use Rattle.std.proofs.lemmas.Bool.Decides.{Decides-like, Decides-and, Decides-ltb, nat_tests}
+use Rattle.std.proofs.lemmas.Str.Parse.{IsNumeralModel, numerals_by_value, tells_all_ascii_digits, parse_plain, digits_value_short}
+use Rattle.std.specs.Result.{OkIff, result_ok}
+use Rattle.std.specs.Str.{all_ascii_digits}
+use Rattle.std.specs.Str.Parse.{ParsesUnsigned, digits_value}
+use Rattle.sessions.specs.Numbers.{value_of, below, is_numeral, number_of}
+
+-- digits, and the number that they write
+pub numerals : IsNumeralModel (λ word. all_ascii_digits word ≡ true) (digits_value 10)
+numerals = numerals_by_value _ tells_all_ascii_digits
+
+ok_decided : {E P : Type 0} (r : Result ℕ E) (v : ℕ) (b : Bool) → OkIff r P v → Decides b P → result_ok r ≡ cond b (Some v) None
+ok_decided (Ok x) v true h d = ap Some h.1
+ok_decided (Ok x) v false h d = absurd (false≢true (d.1 h.0))
+ok_decided (Err e) v true h d = absurd (h (d.0 refl))
+ok_decided (Err e) v false h d = refl
+
+below-value : (numeral : Bool) (n limit : ℕ) → below limit (cond numeral (Some n) None) ≡ cond (numeral && nat_lt n limit) (Some n) None
+below-value true n limit = refl
+below-value false n limit = refl
+
+fits_decides : (word : List ℕ) → Decides (is_numeral word && nat_lt (digits_value 10 word) (2 ^ 64)) ((all_ascii_digits word ≡ true) × (0 < length word) × (digits_value 10 word < 2 ^ 64))
+fits_decides word =
+    Decides-like _ (λ h. (h.0.1, h.0.0, h.1)) (λ h. ((h.1, h.0), h.2))
+    (Decides-and _ _ (Decides-and _ _ (Decides-ltb 0 (length word)) (λ e. e, λ e. e)) (Decides-ltb (digits_value 10 word) (2 ^ 64)))
+
+-- what `parse` gives for a word that doesn't begin with a plus
+pub parsed : {E : Type 0} (word : List ℕ) (r : Result ℕ E) → ParsesUnsigned 64 10 word r → get_or word 0 0 ≢ 43 → result_ok r ≡ below (2 ^ 64) (value_of word)
+parsed word r parses plain =
+    ok_decided r (digits_value 10 word) _ (parse_plain numerals 64 word r parses plain) (fits_decides word)
+    ∙ sym (below-value (is_numeral word) (digits_value 10 word) (2 ^ 64))
+
+short_turn : (word : List ℕ) (numeral : Bool) → is_numeral word ≡ numeral → length word ≤ 15
+    → cond (numeral && nat_lt (digits_value 10 word) (2 ^ 64)) (Some (digits_value 10 word)) None ≡ cond numeral (Some (digits_value 10 word)) None
+short_turn word true is short =
+    let digits = (Decides-and _ _ (Decides-ltb 0 (length word)) (λ e. e, λ e. e)).0 is in
+    let small = digits_value_short numerals word 15 digits.1 short in
+    ap (λ fits. cond fits (Some (digits_value 10 word)) None) ((Decides-ltb (digits_value 10 word) (2 ^ 64)).1 (omega arith))
+short_turn word false is short = refl
+
+-- a number of few digits fits
+pub below-short : (word : List ℕ) → length word ≤ 15 → below (2 ^ 64) (value_of word) ≡ value_of word
+below-short word short = below-value (is_numeral word) (digits_value 10 word) (2 ^ 64) ∙ short_turn word (is_numeral word) refl short
+
+-- a number of a script is as short as its digits
+short-below : (word : List ℕ) (n : ℕ) (numeral : Bool) → is_numeral word ≡ numeral → length word ≤ 15 → cond numeral (Some (digits_value 10 word)) None ≡ Some n → n < 10 ^ 15
+short-below word n true is short h =
+    let digits = (Decides-and _ _ (Decides-ltb 0 (length word)) (λ e. e, λ e. e)).0 is in
+    let small = digits_value_short numerals word 15 digits.1 short in
+    let same : digits_value 10 word ≡ n = cc in
+    omega (arith, small, same)
+short-below word n false is short h = absurd (cc)
+
+number-turn : (word : List ℕ) (n : ℕ) (short : Bool) → leb (length word) 15 ≡ short → cond short (value_of word) None ≡ Some n → n < 10 ^ 15
+number-turn word n true is h = short-below word n (is_numeral word) refl (let le : length word ≤ 15 = grind (arith, nat_tests) in le) h
+number-turn word n false is h = absurd (cc)
+
+pub number_of-short : (word : List ℕ) (n : ℕ) → number_of word ≡ Some n → n < 10 ^ 15
+number_of-short word n h = number-turn word n (leb (length word) 15) refl h

@@ -1,0 +1,211 @@
+-- A script's journal is one legal history of the machine, and the quantity is conserved after each of its entries.
+use Rattle.std.proofs.Common.{◌≡◌, ℕ, ◌+◌, ◌-◌, ◌≤◌, ◌<◌, take, Bool, true, false, cond, eqb, leb, ltb, List, [], ◌∷◌, length, Option, Some, None, Result, Ok, Err, refl, sym, subst, arith}
+use Rattle.std.proofs.lemmas.Bool.Decides.{nat_tests}
+use Rattle.pool_sql.specs.Reading.{read_of}
+use Rattle.pool_sql.proofs.Texts.{read_of-in_range}
+use Rattle.rm_base.specs.declared.definitions.Definitions.{Definitions}
+use Rattle.rm_base.specs.declared.entry.Entry.{Entry}
+use Rattle.rm_base.specs.declared.event.Event.{Event}
+use Rattle.rm_base.specs.declared.event.Event.TheVariants as event
+use Rattle.rm_base.specs.declared.limits.TheConstants.{SCRIPT_ROOM, SCRIPT_MOST, MEMORY_LEAST, MEMORY_MOST, CORES_MOST}
+use Rattle.std.specs.Prelude.{slice_index}
+use Rattle.std.specs.Option.{option_and_then}
+use Rattle.std.specs.Str.Lines.{lines}
+use Rattle.sessions.specs.declared.status.TheConstants.{TOO_LONG}
+use Rattle.rm_base.specs.declared.name.Name.{Name}
+use Rattle.rm_base.specs.declared.refusal.Refusal.{Refusal}
+use Rattle.rm_base.specs.declared.reply.Reply.{Reply}
+use Rattle.rm_base.specs.declared.reply.Reply.TheVariants as reply
+use Rattle.rm_base.specs.declared.statement.Statement.{Statement}
+use Rattle.rm_base.specs.Definitions.{fresh}
+use Rattle.rm_base.specs.Ranges.{is_statement_in_range}
+use Rattle.rm_rules.specs.State.{State}
+use Rattle.rm_rules.specs.Acceptance.{accepted, is_pool_statement}
+use Rattle.rm_rules.specs.Step.{step, replay, IsFormed, IsLegal}
+use Rattle.rm_rules.specs.Conserved.{ConservedAfterEach}
+use Rattle.rm_rules.proofs.Laws.{legal-step, replay-step, conserved-after-each, fresh-sound}
+use Rattle.sessions.specs.declared.options.Options.{Options}
+use Rattle.sessions.specs.Commands.{Command, At, Sql, Open, SetPool, Ask, Poll, Done, command_of}
+use Rattle.sessions.specs.Numbers.{below, at_least, in_range, value_of}
+use Rattle.sessions.specs.Options.{unit_of, times, memory_of, cores_of, both_options, values_in, options_of}
+use Rattle.sessions.specs.OptionsFacts.{AreWithin}
+use Rattle.sessions.specs.Script.{ScriptState, Turn, Bad, Goes, judged_turn, read_turn, with_name, chosen_turn, opened_turn, opening_turn, set_pool_turn, ask_turn, poll_turn, done_turn, turn, command_turn, line_turn, is_comment, ScriptEnd, turn_end, lines_end, no_script, script_start, first_state, script_with, script, IsOneHistory}
+use Rattle.sessions.specs.SessionNames.{session_named}
+
+-- a fact of the machine that a turn leaves, where it leaves one
+abbrev OnGoes : (State → Type 0) → Turn → Type 0
+OnGoes P Bad = Unit {0}
+OnGoes P (Goes text s) = P s.machine
+
+-- what a choice between a bad line and a turn keeps
+bad_or : (P : State → Type 0) (b : Bool) (t : Turn) → OnGoes P t → OnGoes P (cond b Bad t)
+bad_or P true t h = tt
+bad_or P false t h = h
+
+-- a fact that each machine call keeps
+abbrev IsKeptByCalls : (State → Type 0) → Type 0
+IsKeptByCalls P = (m : State) (at : ℕ) (e : Event) → IsFormed e → P m → P (step m 0 at e).state
+
+-- what each machine call keeps, each turn keeps
+judged : (P : State → Type 0) → IsKeptByCalls P → (s : ScriptState) (statement : Statement) → IsFormed (event.Define statement) → (r : Result Definitions Refusal)
+    → P s.machine → OnGoes P (judged_turn s statement r)
+judged P each s statement formed (Err refusal) h = h
+judged P each s statement formed (Ok d) h = each s.machine s.moment (event.Define statement) formed h
+
+states : (P : State → Type 0) → IsKeptByCalls P → (s : ScriptState) (statement : Statement) → is_statement_in_range statement ≡ true → (b : Bool) → is_pool_statement statement ≡ b
+    → P s.machine → OnGoes P (cond b (judged_turn s statement (accepted s.machine.definitions statement)) Bad)
+states P each s statement ranged true is h = judged P each s statement (is, ranged) (accepted s.machine.definitions statement) h
+states P each s statement ranged false is h = tt
+
+reads : (P : State → Type 0) → IsKeptByCalls P → (s : ScriptState) (r : Result Statement Refusal) → ((statement : Statement) → r ≡ Ok statement → is_statement_in_range statement ≡ true)
+    → P s.machine → OnGoes P (read_turn s r)
+reads P each s (Err refusal) ranged h = h
+reads P each s (Ok statement) ranged h = states P each s statement (ranged statement refl) (is_pool_statement statement) refl h
+
+chooses : (P : State → Type 0) → IsKeptByCalls P → (s : ScriptState) (session : Name) (number : ℕ) (pool : Option Name) → P s.machine → OnGoes P (chosen_turn s session number pool)
+chooses P each s session number None h = h
+chooses P each s session number (Some pool) h = each s.machine s.moment (event.SetPool number pool) tt h
+
+follows_open : (P : State → Type 0) → IsKeptByCalls P → (s : ScriptState) (session : Name) (pool : Option Name) (r : Reply) → P s.machine → OnGoes P (opened_turn s session pool r)
+follows_open P each s session pool (reply.Opened number) h = chooses P each (with_name s session number) session number pool h
+follows_open P each s session pool _ h = h
+
+opens : (P : State → Type 0) → IsKeptByCalls P → (s : ScriptState) (session user : Name) (pool : Option Name) → P s.machine → OnGoes P (opening_turn s session user pool)
+opens P each s session user pool h =
+    let o = step s.machine 0 s.moment (event.Open user) in
+    follows_open P each (record s { machine = o.state }) session pool o.reply (each s.machine s.moment (event.Open user) tt h)
+
+sets_pool : (P : State → Type 0) → IsKeptByCalls P → (s : ScriptState) (session pool : Name) (o : Option ℕ) → P s.machine → OnGoes P (set_pool_turn s session pool o)
+sets_pool P each s session pool None h = tt
+sets_pool P each s session pool (Some n) h = each s.machine s.moment (event.SetPool n pool) tt h
+
+asks : (P : State → Type 0) → IsKeptByCalls P → (s : ScriptState) (session : Name) (floor : ℕ) (o : Option ℕ) → P s.machine → OnGoes P (ask_turn s session floor o)
+asks P each s session floor None h = tt
+asks P each s session floor (Some n) h = each s.machine s.moment (event.Submit n floor) tt h
+
+polls : (P : State → Type 0) → IsKeptByCalls P → (s : ScriptState) (session : Name) (o : Option ℕ) → P s.machine → OnGoes P (poll_turn s session o)
+polls P each s session None h = tt
+polls P each s session (Some n) h = each s.machine s.moment (event.Poll n) tt h
+
+ends : (P : State → Type 0) → IsKeptByCalls P → (s : ScriptState) (session : Name) (o : Option ℕ) → P s.machine → OnGoes P (done_turn s session o)
+ends P each s session None h = tt
+ends P each s session (Some n) h = each s.machine s.moment (event.Finish n) tt h
+
+turn_keeps : (P : State → Type 0) → IsKeptByCalls P → (s : ScriptState) (c : Command) → P s.machine → OnGoes P (turn s c)
+turn_keeps P each s (At moment) h = bad_or P _ (Goes [] (record s { moment = moment })) h
+turn_keeps P each s (Sql text) h = reads P each s (read_of text) (read_of-in_range text) h
+turn_keeps P each s (Open session user pool) h = bad_or P _ (opening_turn s session user pool) (opens P each s session user pool h)
+turn_keeps P each s (SetPool session pool) h = sets_pool P each s session pool (session_named s.names session) h
+turn_keeps P each s (Ask session floor) h = asks P each s session floor (session_named s.names session) h
+turn_keeps P each s (Poll session) h = polls P each s session (session_named s.names session) h
+turn_keeps P each s (Done session) h = ends P each s session (session_named s.names session) h
+
+command_keeps : (P : State → Type 0) → IsKeptByCalls P → (s : ScriptState) (o : Option Command) → P s.machine → OnGoes P (command_turn s o)
+command_keeps P each s None h = tt
+command_keeps P each s (Some c) h = turn_keeps P each s c h
+
+line_keeps : (P : State → Type 0) → IsKeptByCalls P → (n : ℕ) (s : ScriptState) (line : List ℕ) → P s.machine → OnGoes P (line_turn n s line)
+line_keeps P each n s line h =
+    bad_or P _ (cond (is_comment line) (Goes [] s) (command_turn s (command_of line)))
+    (elim (is_comment line) as (λ b. OnGoes P (cond b (Goes [] s) (command_turn s (command_of line)))) [
+      | true ↦ h
+      | false ↦ command_keeps P each s (command_of line) h
+    ])
+
+-- what each machine call keeps holds of the journal with which the lines end
+turn_end-keeps : (P : State → Type 0) (J : List Entry → Type 0) → ((m : State) → P m → J m.journal) → (n : ℕ) (s : ScriptState) (t : Turn) (next : ScriptState → ScriptEnd)
+    → P s.machine → OnGoes P t → ((s' : ScriptState) → P s'.machine → J (next s').journal) → J (turn_end n s t next).journal
+turn_end-keeps P J tells n s Bad next h k more = tells s.machine h
+turn_end-keeps P J tells n s (Goes text s') next h k more = more s' k
+
+lines_end-keeps : (P : State → Type 0) (J : List Entry → Type 0) → ((m : State) → P m → J m.journal) → IsKeptByCalls P
+    → (n : ℕ) (s : ScriptState) (lines : List (List ℕ)) → P s.machine → J (lines_end n s lines).journal
+lines_end-keeps P J tells each n s [] h = tells s.machine h
+lines_end-keeps P J tells each n s (line ∷ more) h =
+    turn_end-keeps P J tells n s (line_turn n s line) (λ next. lines_end (n + 1) next more) h (line_keeps P each n s line h)
+    (λ s' k. lines_end-keeps P J tells each (n + 1) s' more k)
+
+-- the machine's journal is legal, and leads to the machine
+pub record IsHistory (first m : State) : Type 0 where
+  pub legal : IsLegal first m.journal
+  pub replays : replay first m.journal ≡ m
+
+history-step : (first : State) → IsKeptByCalls (IsHistory first)
+history-step first m at e formed h = record { legal = legal-step first m 0 at e formed h.legal h.replays; replays = replay-step first m 0 at e h.replays }
+
+pub legal-lines : (first : State) (n : ℕ) (s : ScriptState) (lines : List (List ℕ)) → IsHistory first s.machine → IsLegal first (lines_end n s lines).journal
+legal-lines first n s lines h =
+    lines_end-keeps (IsHistory first) (IsLegal first) (λ m k. k.legal) (history-step first) n s lines h
+
+-- options that are read are within their ranges
+below-some : (limit n : ℕ) (o : Option ℕ) → below limit o ≡ Some n → (o ≡ Some n) × (n < limit)
+below-some limit n None h = absurd (cc)
+below-some limit n (Some m) h =
+    let turn : (b : Bool) → ltb m limit ≡ b → cond b (Some m) None ≡ Some n → (Some m ≡ Some n) × (n < limit) =
+    λ b. elim b as (λ c. ltb m limit ≡ c → cond c (Some m) None ≡ Some n → (Some m ≡ Some n) × (n < limit)) [
+      | true ↦ λ e (k : Some m ≡ Some n). let same : m ≡ n = cc in (k, let lt : m < limit = grind (arith, nat_tests) in omega arith)
+      | false ↦ λ e (k : None ≡ Some n). absurd (cc)
+    ] in
+    turn (ltb m limit) refl h
+
+at_least-some : (least n : ℕ) (o : Option ℕ) → at_least least o ≡ Some n → least ≤ n
+at_least-some least n None h = absurd (cc)
+at_least-some least n (Some m) h =
+    let turn : (b : Bool) → leb least m ≡ b → cond b (Some m) None ≡ Some n → least ≤ n =
+    λ b. elim b as (λ c. leb least m ≡ c → cond c (Some m) None ≡ Some n → least ≤ n) [
+      | true ↦ λ e (k : Some m ≡ Some n). let same : m ≡ n = cc in let le : least ≤ m = grind (arith, nat_tests) in omega arith
+      | false ↦ λ e (k : None ≡ Some n). absurd (cc)
+    ] in
+    turn (leb least m) refl h
+
+in_range-some : (least most n : ℕ) (o : Option ℕ) → in_range least most o ≡ Some n → (least ≤ n) × (n ≤ most)
+in_range-some least most n o h =
+    let upper = below-some (most + 1) n (at_least least o) h in
+    (at_least-some least n o upper.0, omega (arith, upper.1))
+
+both-within : (o : Options) (memory cores : Option ℕ) → ((n : ℕ) → memory ≡ Some n → (MEMORY_LEAST ≤ n) × (n ≤ MEMORY_MOST)) → ((n : ℕ) → cores ≡ Some n → (1 ≤ n) × (n ≤ CORES_MOST))
+    → both_options memory cores ≡ Some o → AreWithin o
+both-within o None cores m c h = absurd (cc)
+both-within o (Some memory) None m c h = absurd (cc)
+both-within o (Some memory) (Some cores) m c h =
+    let a = m memory refl in
+    let b = c cores refl in
+    let P : Options → Type 0 = AreWithin in
+    let one : record { memory = memory; cores = cores } ≡ o = cc in
+    subst P one (record { memory_least = a.0; memory_most = a.1; cores_least = b.0; cores_most = b.1 })
+
+cores-within : (word : List ℕ) (n : ℕ) → cores_of word ≡ Some n → (1 ≤ n) × (n ≤ CORES_MOST)
+cores-within word n h =
+    let turn : (b : Bool) → cond b None (in_range 1 CORES_MOST (value_of word)) ≡ Some n → (1 ≤ n) × (n ≤ CORES_MOST) =
+    λ b. elim b as (λ c. cond c None (in_range 1 CORES_MOST (value_of word)) ≡ Some n → (1 ≤ n) × (n ≤ CORES_MOST)) [
+      | true ↦ λ (k : None ≡ Some n). absurd (cc)
+      | false ↦ λ k. in_range-some 1 CORES_MOST n (value_of word) k
+    ] in
+    turn (eqb (slice_index word 0) 48) h
+
+memory-within : (word : List ℕ) (n : ℕ) → memory_of word ≡ Some n → (MEMORY_LEAST ≤ n) × (n ≤ MEMORY_MOST)
+memory-within word n h =
+    let last = length word - 1 in
+    in_range-some MEMORY_LEAST MEMORY_MOST n (times (value_of (take last word)) (unit_of (slice_index word last))) h
+
+values-within : (o : Options) (values : Option (List ℕ × List ℕ)) → option_and_then (λ v. both_options (memory_of v.0) (cores_of v.1)) values ≡ Some o → AreWithin o
+values-within o None h = absurd (cc)
+values-within o (Some v) h =
+    both-within o (memory_of v.0) (cores_of v.1) (memory-within v.0) (cores-within v.1) h
+
+pub options-within : (words : List (List ℕ)) (o : Options) → options_of words ≡ Some o → AreWithin o
+options-within words o h = values-within o (values_in words) h
+
+-- the headline, for scripts
+pub one_history : (words : List (List ℕ)) (bytes : List ℕ) (o : Options) → options_of words ≡ Some o → IsOneHistory o (script words bytes)
+one_history words bytes o h =
+    let first = script_start o in
+    let sound = let w = options-within words o h in fresh-sound o.memory o.cores w.memory_least w.memory_most w.cores_least w.cores_most in
+    let legal : IsLegal first (script_with (Some o) bytes).journal =
+    elim (ltb SCRIPT_MOST (length bytes)) as (λ b. IsLegal first (cond b (no_script TOO_LONG) (lines_end 1 (first_state o) (lines bytes))).journal) [
+      | true ↦ tt
+      | false ↦ legal-lines first 1 (first_state o) (lines bytes) (record { legal = tt; replays = refl })
+    ] in
+    let conserved : ConservedAfterEach first (script_with (Some o) bytes).journal = conserved-after-each (fresh o.memory o.cores) SCRIPT_ROOM (script_with (Some o) bytes).journal sound legal in
+    let both : IsOneHistory o (script_with (Some o) bytes) = record { legal = legal; conserved = conserved } in
+    subst (λ (q : Option Options). IsOneHistory o (script_with q bytes)) (sym h) both

@@ -1,0 +1,21 @@
+-- What the line of an accepted statement does.
+use Rattle.std.proofs.Common.{◌≡◌, true, cond, Result, Ok, Err, refl, ap, ◌∙◌}
+use Rattle.std.specs.Result.{IsOk}
+use Rattle.std.proofs.lemmas.Bool.{false≢true}
+use Rattle.rm_base.specs.declared.definitions.Definitions.{Definitions}
+use Rattle.rm_base.specs.declared.event.Event.TheVariants as event
+use Rattle.rm_base.specs.declared.refusal.Refusal.{Refusal}
+use Rattle.rm_base.specs.declared.statement.Statement.{Statement}
+use Rattle.rm_rules.specs.Acceptance.{accepted, is_pool_statement}
+use Rattle.sessions.specs.Script.{ScriptState, Bad, called, judged_turn, statement_turn}
+use Rattle.sessions.specs.Texts.{bare_text}
+
+judged-ok : (s : ScriptState) (statement : Statement) (r : Result Definitions Refusal) → IsOk r → judged_turn s statement r ≡ called s (event.Define statement) bare_text
+judged-ok s statement (Ok d) ok = refl
+judged-ok s statement (Err refusal) ok = absurd (false≢true ok)
+
+pub statement-ok : (s : ScriptState) (statement : Statement) → is_pool_statement statement ≡ true → IsOk (accepted s.machine.definitions statement)
+    → statement_turn s statement ≡ called s (event.Define statement) bare_text
+statement-ok s statement is ok =
+    let r = accepted s.machine.definitions statement in
+    ap (λ b. cond b (judged_turn s statement r) Bad) is ∙ judged-ok s statement r ok

@@ -1,0 +1,32 @@
+-- What was written of a text, part by part.
+use Rattle.std.proofs.Common.{◌≡◌, ℕ, ◌+◌, ◌-◌, ◌≤◌, List, length, take, drop, Option, Some, None, sym, ◌∙◌, subst, arith}
+use Rattle.std.specs.Io.KnownBytes.{Appends, Keeps}
+use Rattle.std.proofs.KnownBytes.{Appends-trans}
+use Rattle.std.proofs.Math.Seq.{take-add}
+use Rattle.std.proofs.lemmas.List.{take_all, length-drop, take-append-drop}
+use Rattle.sessions.specs.Transfers.{WroteFront}
+
+-- what was written stays where nothing was added
+pub Appends-kept : (a b c : Option (List ℕ)) (bs : List ℕ) → Appends a b bs → Keeps b c → Appends a c bs
+Appends-kept None b c bs p q = tt
+Appends-kept (Some x) None c bs p q = absurd p
+Appends-kept (Some x) (Some y) None bs p q = absurd q
+Appends-kept (Some x) (Some y) (Some z) bs p q = q ∙ p
+
+rest_whole : (at : ℕ) (text : List ℕ) → take (length text - at) (drop at text) ≡ drop at text
+rest_whole at text = take_all (length text - at) (drop at text) (omega (arith, length-drop at text))
+
+-- a part more
+pub wrote_more : (a b c : Option (List ℕ)) (text : List ℕ) (at n : ℕ) → Appends a b (take at text) → Appends b c (take n (take (length text - at) (drop at text)))
+    → Appends a c (take (at + n) text)
+wrote_more a b c text at n p q =
+    subst (Appends a c) (sym (take-add at n text)) (Appends-trans a b c (take at text) (take n (drop at text)) p (subst (λ (l : List ℕ). Appends b c (take n l)) (rest_whole at text) q))
+
+-- all of the text
+pub wrote_all : (a b : Option (List ℕ)) (text : List ℕ) (at : ℕ) → length text ≤ at → Appends a b (take at text) → Appends a b text
+wrote_all a b text at all p = subst (Appends a b) (take_all at text all) p
+
+-- the front of a text, and no more
+pub wrote_front : (a b c : Option (List ℕ)) (text : List ℕ) (at : ℕ) → Appends a b (take at text) → Keeps b c → WroteFront a c text
+wrote_front a b c text at p q =
+    record { front = take at text; rest = drop at text; split = sym (take-append-drop at text); wrote = Appends-kept a b c (take at text) p q }

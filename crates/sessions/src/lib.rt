@@ -1,0 +1,19 @@
+//! Sessions of the host: the command `script`, from the words of the command line and the bytes that it reads to the
+//! bytes that it writes and the status with which it ends.
+#![tactic(auto)]
+
+mod command;
+mod comments;
+mod ended;
+mod input;
+mod lines;
+mod names;
+mod numbers;
+mod options;
+mod output;
+mod run;
+mod script;
+pub mod script_main;
+pub mod status;
+mod texts;
+mod words;

@@ -1,0 +1,52 @@
+//! Numbers that are written in decimal digits alone.
+
+ghost use Rattle.std.specs.Prelude.{◌≡◌, ◌^◌, ◌<◌, option_map};
+ghost use Rattle.sessions.specs.declared.numbers.TheConstants.{DIGITS_MOST};
+ghost use Rattle.sessions.specs.Numbers.{value_of, below, number_of, floor_of};
+
+/// How many digits a number of a script has at most.
+pub const DIGITS_MOST: usize = 15;
+
+/// A number of a script, as a type that knows how many digits it has at most. So it is a moment.
+#[derive(Clone, Copy, PartialEq, Eq, Debug)]
+pub struct Number {
+    pub value: u64,
+    ghost short: { value < 10 ^ DIGITS_MOST },
+}
+
+/// The number that a word of digits writes, where 64 bits hold it.
+///
+/// `parse` alone would let a `+` in.
+pub fn value_of(word: &str) -> Option<u64>
+    ensures { result ≡ below (2 ^ 64) (value_of word.now) }
+{
+    if word.starts_with('+') {
+        return None;
+    }
+    word.parse().ok()
+}
+
+/// A number of a script.
+pub fn number_of(word: &str) -> Option<u64>
+    ensures { result ≡ number_of word.now }
+{
+    if word.len() > DIGITS_MOST {
+        return None;
+    }
+    value_of(word)
+}
+
+/// A moment: a number of a script from 0 on.
+pub fn moment_of(word: &str) -> Option<Number>
+    ensures { option_map (λ n. n.value) result ≡ number_of word.now }
+{
+    let value = number_of(word)?;
+    Some(Number { value })
+}
+
+/// A floor: a number of a script from 1 on.
+pub fn floor_of(word: &str) -> Option<u64>
+    ensures { result ≡ floor_of word.now }
+{
+    number_of(word).filter(|floor| *floor >= 1)
+}
