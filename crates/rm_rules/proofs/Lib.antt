@@ -7,3 +7,4 @@ pub mod AcceptanceRanges
 pub mod Known
 pub mod Sizes
 pub mod AcceptanceLaws
+pub mod Covering
