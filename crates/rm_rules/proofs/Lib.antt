@@ -8,3 +8,5 @@ pub mod Known
 pub mod Sizes
 pub mod AcceptanceLaws
 pub mod Covering
+pub mod Changed
+pub mod Phases

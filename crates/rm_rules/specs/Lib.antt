@@ -22,3 +22,4 @@ pub mod Healthy
 pub mod Conserved
 pub mod Grants
 pub mod Sessions
+pub mod Replay
