@@ -7,6 +7,11 @@ pub mod AcceptanceRanges
 pub mod Known
 pub mod Sizes
 pub mod AcceptanceLaws
+pub mod Bytes
+pub mod Queue
+pub mod Conserved
+pub mod Shuffling
+pub mod Defining
 pub mod Covering
 pub mod Changed
 pub mod Phases
