@@ -15,3 +15,7 @@ pub mod Defining
 pub mod Covering
 pub mod Changed
 pub mod Phases
+pub mod Moving
+pub mod Admitting
+pub mod Ending
+pub mod Settling
