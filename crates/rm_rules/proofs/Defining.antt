@@ -14,7 +14,6 @@ use Rattle.rm_base.specs.declared.statement.Statement.TheVariants.{CreatePool, A
 use Rattle.rm_base.specs.Name.{same_name}
 use Rattle.rm_base.specs.Ranges.{passes_if_set}
 use Rattle.rm_base.proofs.Names.{same_name-eq}
-use Rattle.rm_rules.specs.declared.state.Holding.{Holding}
 use Rattle.rm_rules.specs.declared.state.Reserve.{Reserve}
 use Rattle.rm_rules.specs.declared.state.Runner.{Runner}
 use Rattle.rm_rules.specs.declared.state.Waiter.{Waiter}
@@ -26,7 +25,7 @@ use Rattle.rm_rules.specs.Accounting.{held_in, used, debt, kept_back}
 use Rattle.rm_rules.specs.Acceptance.{with_row, with_pool, accepted, is_judged, created_row, altered_row, create_refusal, alter_refusal}
 use Rattle.rm_rules.specs.Change.{with_place, defined}
 use Rattle.rm_rules.specs.Sound.{IsSound, has_pool, begins_with_general}
-use Rattle.rm_rules.specs.Healthy.{AreSized, AreThere, AreHeld}
+use Rattle.rm_rules.specs.Healthy.{AreSized, AreThere}
 use Rattle.rm_rules.proofs.Taken.{and_left, and_right}
 use Rattle.rm_rules.proofs.Pools.{names}
 use Rattle.rm_rules.proofs.AcceptancePools.{length_with-there}

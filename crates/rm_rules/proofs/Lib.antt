@@ -19,3 +19,4 @@ pub mod Moving
 pub mod Admitting
 pub mod Ending
 pub mod Settling
+pub mod Rests
