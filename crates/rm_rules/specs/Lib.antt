@@ -23,4 +23,3 @@ pub mod Healthy
 pub mod Conserved
 pub mod Grants
 pub mod Sessions
-pub mod Replay
