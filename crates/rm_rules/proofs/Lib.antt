@@ -19,4 +19,8 @@ pub mod Moving
 pub mod Admitting
 pub mod Ending
 pub mod Settling
+pub mod Changing
+pub mod Keeping
+pub mod Answering
+pub mod Stepping
 pub mod Rests
