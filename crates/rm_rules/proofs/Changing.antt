@@ -246,3 +246,22 @@ tried-turn s seat event (Ok c) is = ok-tried s seat event c is
 
 pub tried-is : (s : State) (seat : ℕ) (event : Event) → IsTried s seat event (tried s (change s seat event))
 tried-is s seat event = tried-turn s seat event (change s seat event) refl
+
+-- no change touches the journal, the clock, the room or the memory in force
+pub record LeavesJournal (s t : State) : Type 0 where
+  pub journal : t.journal ≡ s.journal
+  pub clock : t.clock ≡ s.clock
+  pub room : t.room ≡ s.room
+  pub in_force : t.in_force ≡ s.in_force
+
+pub rest-changed : (s : State) (seat : ℕ) (event : Event) (c : Change) → IsChange s seat event c → LeavesJournal s c.state
+rest-changed s seat _ _ (defines statement new accepts) = record { journal = refl; clock = refl; room = refl; in_force = refl }
+rest-changed s seat _ _ (opens user may) = record { journal = refl; clock = refl; room = refl; in_force = refl }
+rest-changed s seat _ _ (chooses session pool x found may other) = record { journal = refl; clock = refl; room = refl; in_force = refl }
+rest-changed s seat _ _ (submits session floor x found may) = record { journal = refl; clock = refl; room = refl; in_force = refl }
+rest-changed s seat _ _ (collects session x end found ended) = record { journal = refl; clock = refl; room = refl; in_force = refl }
+rest-changed s seat _ _ (finishes session x found runs) = record { journal = refl; clock = refl; room = refl; in_force = refl }
+
+pub rest-tried : (s : State) (seat : ℕ) (event : Event) (c : Change) → IsTried s seat event c → LeavesJournal s c.state
+rest-tried s seat event _ (stays answer still) = record { journal = refl; clock = refl; room = refl; in_force = refl }
+rest-tried s seat event _ (changes c is loud) = rest-changed s seat event c is

@@ -23,4 +23,5 @@ pub mod Changing
 pub mod Keeping
 pub mod Answering
 pub mod Stepping
+pub mod Laws
 pub mod Rests

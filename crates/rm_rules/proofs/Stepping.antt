@@ -74,7 +74,7 @@ or-false true h = refl
 or-false false h = h
 
 -- a change that settles: it says so, or a deadline has acted
-unsettled-tried : (s : State) (seat at : ℕ) (event : Event) (c : Change) → IsTried (found_at s at) seat event c → IsFormed event → IsHealthy s → (has_due s at || c.changed) ≡ true
+pub unsettled-tried : (s : State) (seat at : ℕ) (event : Event) (c : Change) → IsTried (found_at s at) seat event c → IsFormed event → IsHealthy s → (has_due s at || c.changed) ≡ true
     → IsUnsettled c.answer c.state
 unsettled-tried s seat at event _ (stays answer still) formed h settles =
     stays-turn (found_at s at) answer (is_defining answer) refl (quiet-plain (found_at s at) seat event answer still) (due-facts s at (or-false (has_due s at) settles) h)
