@@ -24,4 +24,5 @@ pub mod Keeping
 pub mod Answering
 pub mod Stepping
 pub mod Laws
+pub mod Forces
 pub mod Rests
