@@ -25,4 +25,5 @@ pub mod Answering
 pub mod Stepping
 pub mod Laws
 pub mod Forces
+pub mod Foreign
 pub mod Rests
