@@ -13,4 +13,17 @@ pub mod Conserved
 pub mod Shuffling
 pub mod Defining
 pub mod Covering
+pub mod Changed
+pub mod Phases
+pub mod Moving
+pub mod Admitting
+pub mod Ending
+pub mod Settling
+pub mod Changing
+pub mod Keeping
+pub mod Answering
+pub mod Stepping
+pub mod Laws
+pub mod Forces
+pub mod Foreign
 pub mod Rests
