@@ -26,4 +26,5 @@ pub mod Stepping
 pub mod Laws
 pub mod Forces
 pub mod Foreign
+pub mod Refusing
 pub mod Rests
