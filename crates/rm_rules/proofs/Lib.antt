@@ -27,4 +27,5 @@ pub mod Laws
 pub mod Forces
 pub mod Foreign
 pub mod Refusing
+pub mod Loud
 pub mod Rests
