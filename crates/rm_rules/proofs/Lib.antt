@@ -14,3 +14,4 @@ pub mod Shuffling
 pub mod Defining
 pub mod Covering
 pub mod Rests
+pub mod Idle
