@@ -29,3 +29,6 @@ pub mod Foreign
 pub mod Refusing
 pub mod Loud
 pub mod Rests
+pub mod Idle
+pub mod There
+pub mod SettledLaws
