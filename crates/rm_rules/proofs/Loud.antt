@@ -174,3 +174,46 @@ loud-due s t w seat event c among numbered in_phase found is left same =
     let tried = gone-tried (without_due s) seat event c w.query is (omega (arith, given, (rest-due s).last_query)) (gone-due s w found in_phase numbered) in
     let after = gone-answered w.query (settled c.state) c.answer (gone-settled w.query c.state tried) in
     omega (arith, waits, after, ap (λ (l : List Waiter). count_by (λ x. eqb x.query w.query) l) (same ∙ left))
+
+-- an event that says that it changes something, where no deadline has acted
+loud-entered : (s : State) (seat at : ℕ) (event : Event) (c : Change) → IsHealthy s → IsFormed event → IsChange (moved_to s at) seat event c
+    → IsSameButClock s (entered seat event (settled c.state) c.answer).state → ⊥
+loud-entered s seat at event c h formed is same =
+    let m = moved_to s at in
+    let t = answered (settled c.state) c.answer in
+    let in_phase = (unsettled-changed m seat event c formed (moved-facts s at h) is).in_phase in
+    let journal : t.journal ≡ s.journal =
+    ap (λ (u : State). u.journal) (beside-answered (settled c.state) c.answer).beside ∙ (rest-settled c.state).journal ∙ (rest-changed m seat event c is).journal in
+    let back : (let u : State = record t { journal = s.journal } in u) ≡ (let u : State = record s { clock = t.clock } in u) =
+    ap (λ (u : State). let v : State = record u { journal = s.journal } in v) same in
+    let whole : t ≡ (let u : State = record t { journal = s.journal } in u) = ap (λ l. let u : State = record t { journal = l } in u) journal in
+    loud-change m seat t.clock event c formed is in_phase (whole ∙ back)
+
+-- an event for which one has acted
+due-entered : (s : State) (seat at : ℕ) (event : Event) (c : Change) (o : Option Waiter) → first_due (moved_to s at) ≡ o → is_some o ≡ true → IsHealthy s
+    → IsTried (found_at s at) seat event c → IsSameButClock s (entered seat event (settled c.state) c.answer).state → ⊥
+due-entered s seat at event c None found some h is same = false≢true some
+due-entered s seat at event c (Some w) found some h is same =
+    let m = moved_to s at in
+    let t = (entered seat event (settled c.state) c.answer).state in
+    let healthy = moved-facts s at h in
+    loud-due m t w seat event c (due-among m w found) healthy.numbered healthy.in_phase found is refl (ap (λ (u : State). u.waiting) (sym same))
+
+loud-said : (s : State) (seat at : ℕ) (event : Event) (c : Change) → IsTried (moved_to s at) seat event c → IsHealthy s → IsFormed event → c.changed ≡ true
+    → IsSameButClock s (entered seat event (settled c.state) c.answer).state → ⊥
+loud-said s seat at event _ (stays answer still) h formed settles same = false≢true settles
+loud-said s seat at event _ (changes c is loud) h formed settles same = loud-entered s seat at event c h formed is same
+
+loud-tried : (s : State) (seat at : ℕ) (event : Event) (c : Change) (b : Bool) → has_due s at ≡ b → IsTried (found_at s at) seat event c → IsHealthy s → IsFormed event
+    → (b || c.changed) ≡ true → IsSameButClock s (entered seat event (settled c.state) c.answer).state → ⊥
+loud-tried s seat at event c true due is h formed settles same = due-entered s seat at event c (first_due (moved_to s at)) refl due h is same
+loud-tried s seat at event c false due is h formed settles same =
+    loud-said s seat at event c (subst (λ (t : State). IsTried t seat event c) (none-found s at due) is) h formed settles same
+
+-- an event that makes an entry has changed more than the clock
+pub loud-step : (s : State) (seat at : ℕ) (event : Event) → IsHealthy s → IsFormed event → (step s seat at event).entry ≡ true → IsSameButClock s (step s seat at event).state → ⊥
+loud-step s seat at event h formed =
+    let c = attempted (found_at s at) seat event in
+    outcome-turn (λ o. o.entry ≡ true → IsSameButClock s o.state → ⊥) s seat event c (has_due s at || c.changed)
+    (λ settles e same. loud-tried s seat at event c (has_due s at) refl (tried-is (found_at s at) seat event) h formed settles same)
+    (λ still e. absurd (false≢true e))
