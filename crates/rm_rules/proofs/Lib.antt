@@ -32,3 +32,5 @@ pub mod Rests
 pub mod Idle
 pub mod There
 pub mod SettledLaws
+pub mod Within
+pub mod Alone
