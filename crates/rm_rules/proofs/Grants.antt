@@ -1,6 +1,6 @@
 -- What an event does to the grants of the running queries.
 use Rattle.std.proofs.Common.{◌≡◌, ℕ, ◌+◌, ◌≤◌, Bool, true, false, ◌||◌, cond, eqb, List, [], ◌∷◌, ◌++◌, Some, None, Option, inl, inr, ◌⊎◌, refl, sym, ap, ◌∙◌, subst, arith, append_assoc, append-nil, count_by}
-use Rattle.std.specs.Prelude.{◌≢◌, option_map}
+use Rattle.std.specs.Prelude.{◌≢◌, option_map, option_and_then}
 use Rattle.std.specs.List.{find}
 use Rattle.std.proofs.lemmas.List.Sums.{sum_by-cons}
 use Rattle.std.proofs.lemmas.Bool.{eqb-true, eq-eqb, false≢true}
@@ -29,15 +29,16 @@ use Rattle.rm_rules.specs.Answers.{told, reply_of, answered}
 use Rattle.rm_rules.specs.Step.{Outcome, entered, moved_to, has_due, found_at, attempted, step}
 use Rattle.rm_rules.specs.Replay.{IsFormed}
 use Rattle.rm_rules.specs.Healthy.{AreInPhase, AreNumbered, IsHealthy}
-use Rattle.rm_rules.specs.Grants.{runner_called, waiter_called, grant_called, query_of, released, freed_by, IsAdmitted, KeepsGrants}
-use Rattle.rm_rules.proofs.Taken.{found_passes, found_counted, found_single, counted_among, sum_without}
-use Rattle.rm_rules.proofs.Queue.{IsAmong}
+use Rattle.rm_rules.specs.Grants.{runner_called, waiter_called, grant_called, query_of, released, freed_by, HasWaited, IsAdmitted, KeepsGrants}
+use Rattle.rm_rules.proofs.Taken.{found_passes, found_counted, found_single, counted_among, sum_without, or_right_false}
+use Rattle.rm_rules.proofs.Queue.{IsAmong, found_among}
 use Rattle.rm_rules.proofs.SettledLaws.{none_without}
 use Rattle.rm_rules.proofs.Settling.{entitled-among, due-keeps, settled-keeps, rest-settled, rest-due}
 use Rattle.rm_rules.proofs.Within.{found-behind, within-settled}
 use Rattle.rm_rules.proofs.Changing.{IsTried, stays, changes, IsQuiet, refuses, repeats, tells, IsChange, defines, opens, chooses, submits, collects, finishes, choice_made, session_of-is, session_of-found, tried-is}
 use Rattle.rm_rules.proofs.Phases.{one_if-most, phase_of-found}
 use Rattle.rm_rules.proofs.Keeping.{runner_found}
+use Rattle.rm_rules.proofs.Answering.{beside-answered}
 use Rattle.rm_rules.proofs.Stepping.{moved-facts, found-facts, unsettled-tried, outcome-turn}
 
 -- what is found in front is found, and what is found is in front or the last
@@ -334,3 +335,180 @@ frees-change s u seat _ _ (finishes session x found runs) h =
           let same : r.0.query ≡ query = let e : Some r.0.query ≡ Some query = sym freed ∙ is in cc in
           ap (λ k. grant_called s.running k) (sym same) ∙ ap (option_map (λ (y : Runner). y.grant)) (runner-number s n r.0 r.1 h.numbered) ∙ ap (λ g. Some g) (sym grant);
     }
+
+-- what is told of an item that is there or not
+grant-found : (o : Option Runner) (grant : ℕ) → option_map (λ (r : Runner). r.grant) o ≡ Some grant → (r : Runner) × ((o ≡ Some r) × (r.grant ≡ grant))
+grant-found None grant is = absurd (let none : None ≡ Some grant = is in cc)
+grant-found (Some r) grant is = let same : r.grant ≡ grant = cc in (r, (refl, same))
+
+grant-none : (o : Option Runner) → (let n : Option ℕ = None in option_map (λ (r : Runner). r.grant) o ≡ n) → (let n : Option Runner = None in o ≡ n)
+grant-none None is = refl
+grant-none (Some r) is = absurd (cc)
+
+-- who runs since the change, or from before it
+behind-found : (c : State) (query : ℕ) (r : Runner) → (let n : Option Runner = None in runner_called c.running query ≡ n) → runner_called (settled c).running query ≡ Some r → Came c r
+behind-found c query r none found =
+    let come = come-settled c in
+    come.came query r (found-behind (λ (x : Runner). eqb x.query query) r c.running come.more none (subst (λ (l : List Runner). runner_called l query ≡ Some r) come.split found))
+
+came-number : (c : State) (query : ℕ) (r : Runner) (running : List Runner) (came : Came c r) → runner_called running query ≡ Some r → came.waiter.query ≡ query
+came-number c query r running came found =
+    ap (λ (x : Runner). x.query) (sym came.is) ∙ eqb-true r.query query (found_passes (λ (x : Runner). eqb x.query query) r running found)
+
+gone-settled : (c : State) (query : ℕ) → (let n : Option Runner = None in runner_called c.running query ≡ n) → ((w : Waiter) → IsAmong w c.waiting → w.query ≡ query → ⊥)
+    → (let n : Option Runner = None in runner_called (settled c).running query ≡ n)
+gone-settled c query none waits_not = turn (runner_called (settled c).running query) refl where
+  turn : (o : Option Runner) → runner_called (settled c).running query ≡ o → (let n : Option Runner = None in o ≡ n)
+  turn None found = refl
+  turn (Some r) found =
+      let came = behind-found c query r none found in
+      absurd (waits_not came.waiter came.among (came-number c query r (settled c).running came found))
+
+-- a state that runs what has settled
+pub record RunsAs (t new : State) : Type 0 where
+  pub running : new.running ≡ t.running
+  pub definitions : new.definitions ≡ t.definitions
+  pub clock : new.clock ≡ t.clock
+
+waited-as : (t c : State) (r : Runner) (came : Came c r) → AreNumbered t.last_query t.waiting t.running
+    → IsAmong came.waiter t.waiting ⊎ (came.waiter.query ≡ t.last_query + 1) → HasWaited t r
+waited-as t c r came numbered (inl among) =
+    let w = came.waiter in
+    inl (
+      w,
+      ap (λ (x : Runner). waiter_called t.waiting x.query) came.is ∙ number-found t.last_query t.waiting t.running w numbered among,
+      ap (λ (x : Runner). x.pool) (sym came.is),
+      ap (λ (x : Runner). x.user) (sym came.is),
+      ap (λ (x : Runner). x.floor) (sym came.is),
+    )
+waited-as t c r came numbered (inr new) = inr (ap (λ (x : Runner). x.query) came.is ∙ new)
+
+admitted-settled : (t c new : State) (query : ℕ) (r : Runner) → RunsAs (settled c) new → AreNumbered t.last_query t.waiting t.running
+    → ((w : Waiter) → IsAmong w c.waiting → IsAmong w t.waiting ⊎ (w.query ≡ t.last_query + 1))
+    → (let n : Option Runner = None in runner_called c.running query ≡ n) → runner_called (settled c).running query ≡ Some r → IsAdmitted t new r
+admitted-settled t c new query r like numbered waits none found =
+    let came = behind-found c query r none found in
+    let rest = rest-settled c in
+    let definitions : new.definitions ≡ c.definitions = like.definitions ∙ rest.definitions in
+    let clock : new.clock ≡ c.clock = like.clock ∙ rest.clock in
+    let asked : r.grant ≡ ask c.definitions (pool_row c.definitions r.pool) r.user r.floor =
+    subst (λ (x : Runner). x.grant ≡ ask c.definitions (pool_row c.definitions x.pool) x.user x.floor) (sym came.is) refl in
+    let within = within-settled c query r none found in
+    record {
+      waited = waited-as t c r came numbered (waits came.waiter came.among);
+      grant = subst (λ d. r.grant ≡ ask d (pool_row d r.pool) r.user r.floor) (sym definitions) asked;
+      start = ap (λ (x : Runner). x.start) came.is ∙ sym clock;
+      within =
+          subst (λ d. used r.pool (holdings new.running) ≤ cap d (pool_row d r.pool)) (sym definitions)
+          (subst (λ (l : List Runner). used r.pool (holdings l) ≤ cap c.definitions (pool_row c.definitions r.pool)) (sym like.running) within);
+    }
+
+-- so an event that settles keeps the grants
+keeps-settled : (t c new : State) (event : Event) (answer : Reply) → Frees t event answer c → AreNumbered t.last_query t.waiting t.running → RunsAs (settled c) new
+    → KeepsGrants t new event answer
+keeps-settled t c new event answer frees numbered like =
+    let come = come-settled c in
+    let turned = frees.turned in
+    record {
+      kept = λ query grant was other.
+          let r = grant-found (runner_called t.running query) grant was in
+          let there = turned.kept query r.0 r.1.0 other in
+          ap (λ l. grant_called l query) (like.running ∙ come.split)
+          ∙ ap (option_map (λ (x : Runner). x.grant)) (found-front (λ (x : Runner). eqb x.query query) r.0 c.running come.more there) ∙ ap (λ g. Some g) r.1.1;
+      freed = λ query is. (
+        frees.says query is,
+        ap (λ l. grant_called l query) like.running
+        ∙ ap (option_map (λ (x : Runner). x.grant)) (gone-settled c query (turned.gone query is) (turned.waits_not query is)),
+      );
+      admitted = λ query r found none.
+          admitted-settled t c new query r like numbered turned.waits (turned.none query (grant-none (runner_called t.running query) none))
+          (ap (λ l. runner_called l query) (sym like.running) ∙ found);
+    }
+
+-- what is freed hangs on the running queries alone
+freed-same : (s t : State) (event : Event) (answer : Reply) → t.running ≡ s.running → freed_by t event answer ≡ freed_by s event answer
+freed-same s t (Define statement) answer same = refl
+freed-same s t (Open user) answer same = refl
+freed-same s t (SetPool session pool) answer same = refl
+freed-same s t (Submit session floor) answer same = refl
+freed-same s t (Poll session) answer same = refl
+freed-same s t (Finish session) answer same =
+    ap (λ (l : List Runner). option_and_then (λ grant. option_map (λ (r : Runner). r.query) (runner_of l session)) (released answer)) same
+
+-- deadlines leave the running queries as they were, and none waits that did not
+pub record WaitsLess (s t : State) : Type 0 where
+  pub running : t.running ≡ s.running
+  pub last_query : t.last_query ≡ s.last_query
+  pub waits : (w : Waiter) → IsAmong w t.waiting → IsAmong w s.waiting
+
+pub less-found : (s : State) (at : ℕ) → WaitsLess s (found_at s at)
+less-found s at =
+    due-keeps (WaitsLess s)
+    (λ t w end among h. record {
+      running = h.running;
+      last_query = h.last_query;
+      waits = λ y left. h.waits y (among-without (λ x. eqb x.session w.session) y t.waiting left);
+    })
+    (moved_to s at) (record { running = refl; last_query = refl; waits = λ w among. among })
+
+waited-before : (s t : State) (r : Runner) → WaitsLess s t → AreNumbered s.last_query s.waiting s.running → HasWaited t r → HasWaited s r
+waited-before s t r less numbered (inl h) =
+    let w = h.0 in
+    let among = less.waits w (found_among (λ x. eqb x.query r.query) w t.waiting h.1) in
+    let number : w.query ≡ r.query = eqb-true w.query r.query (found_passes (λ (x : Waiter). eqb x.query r.query) w t.waiting h.1) in
+    inl (w, ap (waiter_called s.waiting) (sym number) ∙ number-found s.last_query s.waiting s.running w numbered among, h.2, h.3, h.4)
+waited-before s t r less numbered (inr new) = inr (new ∙ ap (λ n. n + 1) less.last_query)
+
+keeps-found : (s t new : State) (event : Event) (answer : Reply) → WaitsLess s t → AreNumbered s.last_query s.waiting s.running → KeepsGrants t new event answer
+    → KeepsGrants s new event answer
+keeps-found s t new event answer less numbered h =
+    let same = freed-same s t event answer less.running in
+    record {
+      kept = λ query grant was other. h.kept query grant (ap (λ l. grant_called l query) less.running ∙ was) (λ is. other (sym same ∙ is));
+      freed = λ query is. let f = h.freed query (same ∙ is) in (ap (λ l. grant_called l query) (sym less.running) ∙ f.0, f.1);
+      admitted = λ query r found none.
+          let a = h.admitted query r found (ap (λ l. grant_called l query) less.running ∙ none) in
+          record { waited = waited-before s t r less numbered a.waited; grant = a.grant; start = a.start; within = a.within };
+    }
+
+-- an event that changes nothing keeps them
+keeps-same : (s : State) (event : Event) (answer : Reply) → (let o : Option ℕ = None in freed_by s event answer ≡ o) → KeepsGrants s s event answer
+keeps-same s event answer none = record {
+  kept = λ query grant was other. was;
+  freed = λ query is. absurd (let e : None ≡ Some query = sym none ∙ is in cc);
+  admitted = λ query r found gone. absurd (let e : Some r.grant ≡ None = sym (ap (option_map (λ (x : Runner). x.grant)) found) ∙ gone in cc);
+}
+
+quiet-none : (s t u : State) (seat : ℕ) (event : Event) (answer : Answer) → IsQuiet t seat event answer → (let o : Option ℕ = None in freed_by s event (reply_of u answer) ≡ o)
+quiet-none s t u seat _ _ (refuses event r is) = refused-none s event r
+quiet-none s t u seat _ _ (repeats session pool x found same) = refl
+quiet-none s t u seat _ _ (tells session x found active) = refl
+
+keeps-still : (s t : State) (seat : ℕ) (event : Event) (c : Change) → IsTried t seat event c → c.changed ≡ false → KeepsGrants s s event (reply_of c.state c.answer)
+keeps-still s t seat event _ (stays answer still) plain = keeps-same s event (reply_of t answer) (quiet-none s t t seat event answer still)
+keeps-still s t seat event _ (changes c is loud) plain = absurd (false≢true (sym plain ∙ loud))
+
+tried-frees : (t u : State) (seat : ℕ) (event : Event) (c : Change) → IsTried t seat event c → IsHealthy t → Frees t event (reply_of u c.answer) c.state
+tried-frees t u seat event _ (stays answer still) h = frees-quiet t u seat event answer still
+tried-frees t u seat event _ (changes c is loud) h = frees-change t u seat event c is h
+
+pub grants-step : (s : State) (seat at : ℕ) (event : Event) → IsHealthy s → KeepsGrants s (step s seat at event).state event (step s seat at event).reply
+grants-step s seat at event h =
+    let t = found_at s at in
+    let c = attempted t seat event in
+    let is = tried-is t seat event in
+    let there = found-facts s at h in
+    outcome-turn (λ o. KeepsGrants s o.state event o.reply) s seat event c (has_due s at || c.changed)
+    (λ settles.
+      let u = settled c.state in
+      let beside = (beside-answered u c.answer).beside in
+      let new = (entered seat event u c.answer).state in
+      keeps-found s t new event (reply_of u c.answer) (less-found s at) h.numbered
+      (keeps-settled t c.state new event (reply_of u c.answer) (tried-frees t u seat event c is there) there.numbered
+      (record {
+        running = ap (λ (v : State). v.running) beside;
+        definitions = ap (λ (v : State). v.definitions) beside;
+        clock = ap (λ (v : State). v.clock) beside;
+      }))
+    )
+    (λ still. keeps-still s t seat event c is (or_right_false (has_due s at) c.changed still))
