@@ -93,15 +93,8 @@ room-replay s [] = refl
 room-replay s (e ∷ es) = room-replay (step s e.seat e.at e.event).state es ∙ room-step s e.seat e.at e.event
 
 -- so the journal never has more entries than its room, those beyond it and those of statements
-pub journal-most : (d : Definitions) (room : ℕ) (entries : List Entry) → IsSound d → IsLegal (start d room) entries → length entries ≤ room + ENTRIES_BEYOND + CHANGES_MOST
+pub journal-most : (d : Definitions) (room : ℕ) (entries : List Entry) → IsSound d → IsLegal (start d room) entries
+    → length (replay (start d room) entries).journal ≤ room + ENTRIES_BEYOND + CHANGES_MOST
 journal-most d room entries sound legal =
-    let t = replay (start d room) entries in
     let h = healthy-replay (start d room) entries legal (healthy-start d room sound) in
-    omega (
-      arith,
-      h.room.kept,
-      h.room.defined,
-      h.sound.changes,
-      room-replay (start d room) entries,
-      ap (λ (l : List Entry). length l) (replay-journal (start d room) entries legal),
-    )
+    omega (arith, h.room.kept, h.room.defined, h.sound.changes, room-replay (start d room) entries)

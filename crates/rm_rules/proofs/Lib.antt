@@ -36,3 +36,4 @@ pub mod Within
 pub mod Alone
 pub mod Grants
 pub mod Histories
+pub mod Submitting
