@@ -26,4 +26,14 @@ pub mod Stepping
 pub mod Laws
 pub mod Forces
 pub mod Foreign
+pub mod Refusing
+pub mod Loud
 pub mod Rests
+pub mod Idle
+pub mod There
+pub mod SettledLaws
+pub mod Within
+pub mod Alone
+pub mod Grants
+pub mod Histories
+pub mod Submitting

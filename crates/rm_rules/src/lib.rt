@@ -3,6 +3,8 @@
 
 pub mod acceptance;
 pub mod answer;
+pub mod free_bytes;
+pub mod history;
 pub mod readings;
 pub mod room;
 pub mod state;
