@@ -27,6 +27,7 @@ pub mod Laws
 pub mod Forces
 pub mod Foreign
 pub mod Refusing
+pub mod Loud
 pub mod Rests
 pub mod Idle
 pub mod There
