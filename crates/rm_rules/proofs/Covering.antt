@@ -1,6 +1,6 @@
 -- What admission, the shuffle, an end, a statement and the start leave of the bytes.
 use Rattle.std.proofs.Common.{◌≡◌, ℕ, ◌+◌, ◌≤◌, Bool, true, List, [], ◌∷◌, length, Some, Ok, refl, sym, ap, ◌∙◌, subst, arith, sum_by, map, max, eqb}
-use Rattle.std.specs.List.{find, list_all, list_any}
+use Rattle.std.specs.List.{find, list_any}
 use Rattle.std.proofs.lemmas.List.{length-map, map_push}
 use Rattle.std.proofs.lemmas.List.Sums.{sum_by-cons}
 use Rattle.rm_base.specs.declared.definitions.Definitions.{Definitions}
@@ -15,14 +15,14 @@ use Rattle.rm_rules.specs.declared.state.Runner.{Runner}
 use Rattle.rm_rules.specs.Definitions.{total, user_pools}
 use Rattle.rm_rules.specs.State.{State, start, none_ended, without, without_runner}
 use Rattle.rm_rules.specs.Holdings.{Holdings, holding, holdings, holdings_of, reserves_of}
-use Rattle.rm_rules.specs.Accounting.{held_in, debt, free, need, kept_back}
+use Rattle.rm_rules.specs.Accounting.{held_in, free, need, kept_back}
 use Rattle.rm_rules.specs.Admission.{admitted, started, first_entitled}
 use Rattle.rm_rules.specs.Shuffle.{shuffled, shuffled_state}
 use Rattle.rm_rules.specs.Acceptance.{accepted, is_judged, with_pool}
 use Rattle.rm_rules.specs.Change.{defined, runner_of}
-use Rattle.rm_rules.specs.Sound.{IsSound, has_pool}
+use Rattle.rm_rules.specs.Sound.{IsSound}
 use Rattle.rm_rules.specs.Healthy.{AreSized, AreThere, AreHeld, AreCovered}
-use Rattle.rm_rules.proofs.Taken.{all_push, all_among, sum_without}
+use Rattle.rm_rules.proofs.Taken.{all_push, sum_without}
 use Rattle.rm_rules.proofs.Pools.{reserve_names, sum_by-map}
 use Rattle.rm_rules.proofs.Bytes.{AreNamed, named, named-pool, with_grant, lent-push, lent-more, lent-less, lent-none, reserve_names-of}
 use Rattle.rm_rules.proofs.Queue.{first_entitled_fits, enough}

@@ -2,7 +2,7 @@
 use Rattle.std.proofs.Common.{◌≡◌, ℕ, ◌+◌, ◌-◌, ◌≤◌, ◌<◌, Bool, true, false, ◌||◌, cond, ltb, leb, eqb, List, [], ◌∷◌, Some, None, Option, refl, sym, ap, ◌∙◌, subst, arith, sum_by, ⊎_elim}
 use Rattle.std.specs.Prelude.{nat_le}
 use Rattle.std.specs.Int.Signed.{lt_z}
-use Rattle.std.specs.List.{find, list_all, list_any}
+use Rattle.std.specs.List.{list_all, list_any}
 use Rattle.std.specs.Option.{unwrap_or}
 use Rattle.std.proofs.lemmas.List.Sums.{sum_by-cons}
 use Rattle.std.proofs.lemmas.Bool.{cases_lt, false≢true, le-leb, eqb-true, ltb-true, or_right}
@@ -25,7 +25,7 @@ use Rattle.rm_rules.specs.Budget.{threshold}
 use Rattle.rm_rules.specs.Ask.{within, cap, narrowed, ask}
 use Rattle.rm_rules.specs.State.{State}
 use Rattle.rm_rules.specs.Holdings.{Holdings, holdings, holdings_of}
-use Rattle.rm_rules.specs.Accounting.{used, running_in, debt, unused, kept_back, unused_of, lent, free, need}
+use Rattle.rm_rules.specs.Accounting.{used, running_in, unused, kept_back, unused_of, lent, free, need}
 use Rattle.rm_rules.specs.Fit.{has_place, poolfit, can_lend}
 use Rattle.rm_rules.specs.Admission.{ask_of, judged_for, heads_behind, heads, put_in_order, in_queue_order, priority_of, is_entitled, is_blocked, first_among, first_entitled}
 use Rattle.rm_rules.specs.Sound.{IsSound, has_pool, begins_with_general, are_distinct}
