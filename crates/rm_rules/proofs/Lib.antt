@@ -34,3 +34,4 @@ pub mod Idle
 pub mod SettledLaws
 pub mod Within
 pub mod Alone
+pub mod Grants
