@@ -4,42 +4,36 @@ use Rattle.std.specs.Prelude.{◌≢◌, option_map, option_and_then}
 use Rattle.std.specs.List.{find}
 use Rattle.std.proofs.lemmas.List.Sums.{sum_by-cons}
 use Rattle.std.proofs.lemmas.Bool.{eqb-true, eq-eqb, false≢true}
-use Rattle.rm_base.specs.declared.definitions.Definitions.{Definitions}
 use Rattle.rm_base.specs.declared.event.Event.{Event}
 use Rattle.rm_base.specs.declared.event.Event.TheVariants.{Define, Open, SetPool, Submit, Poll, Finish}
-use Rattle.rm_base.specs.declared.reply.End.{End}
 use Rattle.rm_base.specs.declared.refusal.Refusal.{Refusal}
 use Rattle.rm_base.specs.declared.reply.Reply.{Reply}
 use Rattle.rm_base.specs.declared.reply.Reply.TheVariants as reply
 use Rattle.rm_rules.specs.declared.answer.Answer.{Answer}
-use Rattle.rm_rules.specs.declared.state.Session.{Session}
 use Rattle.rm_rules.specs.declared.state.Waiter.{Waiter}
 use Rattle.rm_rules.specs.declared.state.Runner.{Runner}
 use Rattle.rm_rules.specs.Definitions.{pool_row}
-use Rattle.rm_rules.specs.Ask.{cap, ask}
-use Rattle.rm_rules.specs.State.{State, without, without_waiter, without_runner, session_pool, phase_of, is_running}
+use Rattle.rm_rules.specs.Ask.{cap}
+use Rattle.rm_rules.specs.State.{State, without, without_runner, session_pool, phase_of, is_running}
 use Rattle.rm_rules.specs.Holdings.{holdings}
 use Rattle.rm_rules.specs.Accounting.{used}
 use Rattle.rm_rules.specs.Admission.{started, admitted, first_entitled}
-use Rattle.rm_rules.specs.Shuffle.{shuffled_state}
-use Rattle.rm_rules.specs.Deadlines.{ended_as}
 use Rattle.rm_rules.specs.Settle.{settled}
 use Rattle.rm_rules.specs.Change.{Change, runner_of, grant_of, new_waiter, defined, opened, submitted, collected, finished}
-use Rattle.rm_rules.specs.Answers.{told, reply_of, answered}
-use Rattle.rm_rules.specs.Step.{Outcome, entered, moved_to, has_due, found_at, attempted, step}
-use Rattle.rm_rules.specs.Replay.{IsFormed}
-use Rattle.rm_rules.specs.Healthy.{AreInPhase, AreNumbered, IsHealthy}
-use Rattle.rm_rules.specs.Grants.{runner_called, waiter_called, grant_called, query_of, released, freed_by, HasWaited, IsAdmitted, KeepsGrants}
+use Rattle.rm_rules.specs.Answers.{told, reply_of}
+use Rattle.rm_rules.specs.Step.{entered, moved_to, has_due, found_at, attempted, step}
+use Rattle.rm_rules.specs.Healthy.{AreNumbered, IsHealthy}
+use Rattle.rm_rules.specs.Grants.{runner_called, waiter_called, grant_called, query_of, released, freed_by, still_running, WasSubmitted, HasWaited, IsAdmitted, KeepsGrants}
 use Rattle.rm_rules.proofs.Taken.{found_passes, found_counted, found_single, counted_among, sum_without, or_right_false}
 use Rattle.rm_rules.proofs.Queue.{IsAmong, found_among}
 use Rattle.rm_rules.proofs.SettledLaws.{none_without}
-use Rattle.rm_rules.proofs.Settling.{entitled-among, due-keeps, settled-keeps, rest-settled, rest-due}
+use Rattle.rm_rules.proofs.Settling.{entitled-among, due-keeps, settled-keeps, rest-settled}
 use Rattle.rm_rules.proofs.Within.{found-behind, within-settled}
 use Rattle.rm_rules.proofs.Changing.{IsTried, stays, changes, IsQuiet, refuses, repeats, tells, IsChange, defines, opens, chooses, submits, collects, finishes, choice_made, session_of-is, session_of-found, tried-is}
 use Rattle.rm_rules.proofs.Phases.{one_if-most, phase_of-found}
 use Rattle.rm_rules.proofs.Keeping.{runner_found}
 use Rattle.rm_rules.proofs.Answering.{beside-answered}
-use Rattle.rm_rules.proofs.Stepping.{moved-facts, found-facts, unsettled-tried, outcome-turn}
+use Rattle.rm_rules.proofs.Stepping.{found-facts, outcome-turn}
 
 -- what is found in front is found, and what is found is in front or the last
 front-turn : {A : Type 0} (test : A → Bool) (x y : A) (xs ys : List A) (b : Bool) → cond b (Some x) (find test xs) ≡ Some y
@@ -178,16 +172,16 @@ come-settled c =
 
 -- What a change does to the running and the waiting queries: the query of one number ends, or none. It waits no more, and
 -- no other comes or goes but a new one that waits.
-pub record Turned (s c : State) (freed : Option ℕ) : Type 0 where
+pub record Turned (s c : State) (event : Event) (freed : Option ℕ) : Type 0 where
   pub kept : (query : ℕ) (r : Runner) → runner_called s.running query ≡ Some r → freed ≢ Some query → runner_called c.running query ≡ Some r
   pub gone : (query : ℕ) → freed ≡ Some query → runner_called c.running query ≡ None
   pub waits_not : (query : ℕ) → freed ≡ Some query → (w : Waiter) → IsAmong w c.waiting → w.query ≡ query → ⊥
   pub none : (query : ℕ) → runner_called s.running query ≡ None → runner_called c.running query ≡ None
-  pub waits : (w : Waiter) → IsAmong w c.waiting → IsAmong w s.waiting ⊎ (w.query ≡ s.last_query + 1)
+  pub waits : (w : Waiter) → IsAmong w c.waiting → IsAmong w s.waiting ⊎ WasSubmitted s event w
 
 -- where no query ends and none is new
-turned-same : (s c : State) → c.running ≡ s.running → c.waiting ≡ s.waiting → Turned s c None
-turned-same s c running waiting = record {
+turned-same : (s c : State) (event : Event) → c.running ≡ s.running → c.waiting ≡ s.waiting → Turned s c event None
+turned-same s c event running waiting = record {
   kept = λ query r found none. ap (λ l. runner_called l query) running ∙ found;
   gone = λ query none. absurd (cc);
   waits_not = λ query none w among is. absurd (let e : None ≡ Some query = none in cc);
@@ -195,17 +189,17 @@ turned-same s c running waiting = record {
   waits = λ w among. inl (subst (IsAmong w) waiting among);
 }
 
-turned-submitted : (s c : State) (y : Waiter) → c.running ≡ s.running → c.waiting ≡ s.waiting ++ y ∷ [] → y.query ≡ s.last_query + 1 → Turned s c None
-turned-submitted s c y running waiting next = record {
+turned-submitted : (s c : State) (event : Event) (y : Waiter) → c.running ≡ s.running → c.waiting ≡ s.waiting ++ y ∷ [] → WasSubmitted s event y → Turned s c event None
+turned-submitted s c event y running waiting next = record {
   kept = λ query r found none. ap (λ l. runner_called l query) running ∙ found;
   gone = λ query none. absurd (cc);
   waits_not = λ query none w among is. absurd (let e : None ≡ Some query = none in cc);
   none = λ query found. ap (λ l. runner_called l query) running ∙ found;
   waits = λ w among. turn w (among-push w y s.waiting (subst (IsAmong w) waiting among));
 } where
-  turn : (w : Waiter) → IsAmong w s.waiting ⊎ (w ≡ y) → IsAmong w s.waiting ⊎ (w.query ≡ s.last_query + 1)
+  turn : (w : Waiter) → IsAmong w s.waiting ⊎ (w ≡ y) → IsAmong w s.waiting ⊎ WasSubmitted s event w
   turn w (inl before) = inl before
-  turn w (inr new) = inr (ap (λ (z : Waiter). z.query) new ∙ next)
+  turn w (inr new) = inr (subst (WasSubmitted s event) (sym new) next)
 
 -- where what is found stands
 split-turn : {A : Type 0} (test : A → Bool) (x y : A) (xs : List A) (b : Bool) → cond b (Some x) (find test xs) ≡ Some y
@@ -253,9 +247,9 @@ runner-number s n r found numbered =
     there.1 ∙ ap (λ y. Some y) (sym same)
 
 -- where the running query of a session ends
-turned-finished : (s c : State) (n : ℕ) (r : Runner) → c.running ≡ without_runner n s.running → c.waiting ≡ s.waiting → runner_of s.running n ≡ Some r
-    → count_by (λ (x : Runner). eqb x.session n) s.running ≤ 1 → AreNumbered s.last_query s.waiting s.running → Turned s c (Some r.query)
-turned-finished s c n r running waiting found few numbered =
+turned-finished : (s c : State) (event : Event) (n : ℕ) (r : Runner) → c.running ≡ without_runner n s.running → c.waiting ≡ s.waiting → runner_of s.running n ≡ Some r
+    → count_by (λ (x : Runner). eqb x.session n) s.running ≤ 1 → AreNumbered s.last_query s.waiting s.running → Turned s c event (Some r.query)
+turned-finished s c event n r running waiting found few numbered =
     let of_session = λ (x : Runner). eqb x.session n in
     let counted : 1 ≤ count_by (λ (x : Runner). eqb x.query r.query) s.running =
     let split = found-split of_session r s.running found in
@@ -276,24 +270,41 @@ turned-finished s c n r running waiting found few numbered =
       none = λ query called. ap (λ l. runner_called l query) running ∙ none_without (λ (x : Runner). eqb x.query query) (λ x. eqb x.session n) s.running called;
       waits = λ w among. inl (subst (IsAmong w) waiting among);
     } where
-  kept : (query : ℕ) (y : Runner) → runner_called s.running query ≡ Some y → (let o : Option ℕ = Some r.query in o ≢ Some query) → (b : Bool) → eqb y.session n ≡ b
-      → runner_called (without_runner n s.running) query ≡ Some y
-  kept query y called other true here =
-      let same : y ≡ r = found-same (λ (x : Runner). eqb x.query query) (λ x. eqb x.session n) y r s.running called here few found in
-      let number : y.query ≡ query = eqb-true y.query query (found_passes (λ (x : Runner). eqb x.query query) y s.running called) in
-      absurd (other (ap (λ k. Some k) (ap (λ (z : Runner). z.query) (sym same) ∙ number)))
-  kept query y called other false here = found-kept (λ (x : Runner). eqb x.query query) (λ x. eqb x.session n) y s.running called here
+      kept : (query : ℕ) (y : Runner) → runner_called s.running query ≡ Some y → (let o : Option ℕ = Some r.query in o ≢ Some query) → (b : Bool) → eqb y.session n ≡ b
+          → runner_called (without_runner n s.running) query ≡ Some y
+      kept query y called other true here =
+          let same : y ≡ r = found-same (λ (x : Runner). eqb x.query query) (λ x. eqb x.session n) y r s.running called here few found in
+          let number : y.query ≡ query = eqb-true y.query query (found_passes (λ (x : Runner). eqb x.query query) y s.running called) in
+          absurd (other (ap (λ k. Some k) (ap (λ (z : Runner). z.query) (sym same) ∙ number)))
+      kept query y called other false here = found-kept (λ (x : Runner). eqb x.query query) (λ x. eqb x.session n) y s.running called here
 
--- what a change frees is the grant that its reply says
+-- what a change frees is the grant that its reply says, and it leaves the others as they stand
 pub record Frees (s : State) (event : Event) (answer : Reply) (c : State) : Type 0 where
-  pub turned : Turned s c (freed_by s event answer)
+  pub turned : Turned s c event (freed_by s event answer)
   pub says : (query : ℕ) → freed_by s event answer ≡ Some query → grant_called s.running query ≡ released answer
+  pub whole : (session grant : ℕ) → event ≡ Finish session → released answer ≡ Some grant → (query : ℕ) × (freed_by s event answer ≡ Some query)
+  pub rest : c.running ≡ still_running s event answer
 
-frees-none : (s : State) (event : Event) (answer : Reply) (c : State) → (let o : Option ℕ = None in freed_by s event answer ≡ o) → Turned s c None → Frees s event answer c
-frees-none s event answer c none turned = record {
-  turned = subst (Turned s c) (sym none) turned;
+-- nothing is given back to who does not finish
+abbrev pub IsNoFinish : Event → Reply → Type 0
+IsNoFinish event answer = (session grant : ℕ) → event ≡ Finish session → released answer ≡ Some grant → ⊥
+
+frees-none : (s : State) (event : Event) (answer : Reply) (c : State) → (let o : Option ℕ = None in freed_by s event answer ≡ o) → IsNoFinish event answer
+    → c.running ≡ still_running s event answer → Turned s c event None → Frees s event answer c
+frees-none s event answer c none no_finish rest turned = record {
+  turned = subst (Turned s c event) (sym none) turned;
   says = λ query is. absurd (let e : None ≡ Some query = sym none ∙ is in cc);
+  whole = λ session grant is gives. absurd (no_finish session grant is gives);
+  rest = rest;
 }
+
+refused-rest : (s : State) (event : Event) (r : Refusal) → s.running ≡ still_running s event (reply.Refused r)
+refused-rest s (Define statement) r = refl
+refused-rest s (Open user) r = refl
+refused-rest s (SetPool session pool) r = refl
+refused-rest s (Submit session floor) r = refl
+refused-rest s (Poll session) r = refl
+refused-rest s (Finish session) r = refl
 
 refused-none : (s : State) (event : Event) (r : Refusal) → (let o : Option ℕ = None in freed_by s event (reply.Refused r) ≡ o)
 refused-none s (Define statement) r = refl
@@ -304,22 +315,24 @@ refused-none s (Poll session) r = refl
 refused-none s (Finish session) r = refl
 
 frees-quiet : (s u : State) (seat : ℕ) (event : Event) (answer : Answer) → IsQuiet s seat event answer → Frees s event (reply_of u answer) s
-frees-quiet s u seat _ _ (refuses event r is) = frees-none s event (reply.Refused r) s (refused-none s event r) (turned-same s s refl refl)
-frees-quiet s u seat _ _ (repeats session pool x found same) = frees-none s (SetPool session pool) reply.Set s refl (turned-same s s refl refl)
-frees-quiet s u seat _ _ (tells session x found active) = frees-none s (Poll session) (told u x.number) s refl (turned-same s s refl refl)
+frees-quiet s u seat _ _ (refuses event r is) = frees-none s event (reply.Refused r) s (refused-none s event r) (λ n grant is gives. absurd (cc)) (refused-rest s event r) (turned-same s s event refl refl)
+frees-quiet s u seat _ _ (repeats session pool x found same) = frees-none s (SetPool session pool) reply.Set s refl (λ n grant is gives. absurd (cc)) refl (turned-same s s (SetPool session pool) refl refl)
+frees-quiet s u seat _ _ (tells session x found active) = frees-none s (Poll session) (told u x.number) s refl (λ n grant is gives. absurd (cc)) refl (turned-same s s (Poll session) refl refl)
 
 frees-change : (s u : State) (seat : ℕ) (event : Event) (c : Change) → IsChange s seat event c → IsHealthy s → Frees s event (reply_of u c.answer) c.state
-frees-change s u seat _ _ (defines statement new accepts) h = frees-none s (Define statement) reply.Defined (defined s new).state refl (turned-same s (defined s new).state refl refl)
+frees-change s u seat _ _ (defines statement new accepts) h = frees-none s (Define statement) reply.Defined (defined s new).state refl (λ n grant is gives. absurd (cc)) refl (turned-same s (defined s new).state (Define statement) refl refl)
 frees-change s u seat _ _ (opens user may) h =
-    frees-none s (Open user) (reply.Opened (s.last_session + 1)) (opened s seat user).state refl (turned-same s (opened s seat user).state refl refl)
+    frees-none s (Open user) (reply.Opened (s.last_session + 1)) (opened s seat user).state refl (λ n grant is gives. absurd (cc)) refl (turned-same s (opened s seat user).state (Open user) refl refl)
 frees-change s u seat _ _ (chooses session pool x found may differs) h =
-    frees-none s (SetPool session pool) reply.Set (choice_made s x pool).state refl (turned-same s (choice_made s x pool).state refl refl)
+    frees-none s (SetPool session pool) reply.Set (choice_made s x pool).state refl (λ n grant is gives. absurd (cc)) refl (turned-same s (choice_made s x pool).state (SetPool session pool) refl refl)
 frees-change s u seat _ _ (submits session floor x found may) h =
     let pool = session_pool s.definitions x in
     let c = submitted s x pool floor in
-    frees-none s (Submit session floor) (told u x.number) c.state refl (turned-submitted s c.state (new_waiter s x pool floor) refl refl refl)
+    let number : session ≡ x.number = sym (session_of-is s seat session x found).number in
+    frees-none s (Submit session floor) (told u x.number) c.state refl (λ n grant is gives. absurd (cc)) refl
+    (turned-submitted s c.state (Submit session floor) (new_waiter s x pool floor) refl refl (ap (λ n. Submit n floor) number, refl))
 frees-change s u seat _ _ (collects session x end found ended) h =
-    frees-none s (Poll session) (reply.Ended end) (collected s x end).state refl (turned-same s (collected s x end).state refl refl)
+    frees-none s (Poll session) (reply.Ended end) (collected s x end).state refl (λ n grant is gives. absurd (cc)) refl (turned-same s (collected s x end).state (Poll session) refl refl)
 frees-change s u seat _ _ (finishes session x found runs) h =
     let n = x.number in
     let there = session_of-found s seat session x found in
@@ -328,22 +341,15 @@ frees-change s u seat _ _ (finishes session x found runs) h =
     let number : n ≡ session = (session_of-is s seat session x found).number in
     let freed : query_of s session ≡ Some r.0.query = ap (λ k. query_of s k) (sym number) ∙ ap (option_map (λ (y : Runner). y.query)) r.1 in
     let grant : grant_of s.running n ≡ r.0.grant = ap (λ (o : Option Runner). elim o [ Some y ↦ y.grant | None ↦ 0 ]) r.1 in
-    let turned = turned-finished s (finished s x).state n r.0 refl refl r.1 few h.numbered in
+    let turned = turned-finished s (finished s x).state (Finish session) n r.0 refl refl r.1 few h.numbered in
     record {
-      turned = subst (Turned s (finished s x).state) (sym freed) turned;
+      turned = subst (Turned s (finished s x).state (Finish session)) (sym freed) turned;
+      whole = λ m grant is gives. (r.0.query, freed);
+      rest = ap (λ k. without_runner k s.running) number;
       says = λ query is.
           let same : r.0.query ≡ query = let e : Some r.0.query ≡ Some query = sym freed ∙ is in cc in
           ap (λ k. grant_called s.running k) (sym same) ∙ ap (option_map (λ (y : Runner). y.grant)) (runner-number s n r.0 r.1 h.numbered) ∙ ap (λ g. Some g) (sym grant);
     }
-
--- what is told of an item that is there or not
-grant-found : (o : Option Runner) (grant : ℕ) → option_map (λ (r : Runner). r.grant) o ≡ Some grant → (r : Runner) × ((o ≡ Some r) × (r.grant ≡ grant))
-grant-found None grant is = absurd (let none : None ≡ Some grant = is in cc)
-grant-found (Some r) grant is = let same : r.grant ≡ grant = cc in (r, (refl, same))
-
-grant-none : (o : Option Runner) → (let n : Option ℕ = None in option_map (λ (r : Runner). r.grant) o ≡ n) → (let n : Option Runner = None in o ≡ n)
-grant-none None is = refl
-grant-none (Some r) is = absurd (cc)
 
 -- who runs since the change, or from before it
 behind-found : (c : State) (query : ℕ) (r : Runner) → (let n : Option Runner = None in runner_called c.running query ≡ n) → runner_called (settled c).running query ≡ Some r → Came c r
@@ -370,34 +376,29 @@ pub record RunsAs (t new : State) : Type 0 where
   pub definitions : new.definitions ≡ t.definitions
   pub clock : new.clock ≡ t.clock
 
-waited-as : (t c : State) (r : Runner) (came : Came c r) → AreNumbered t.last_query t.waiting t.running
-    → IsAmong came.waiter t.waiting ⊎ (came.waiter.query ≡ t.last_query + 1) → HasWaited t r
-waited-as t c r came numbered (inl among) =
-    let w = came.waiter in
-    inl (
-      w,
-      ap (λ (x : Runner). waiter_called t.waiting x.query) came.is ∙ number-found t.last_query t.waiting t.running w numbered among,
-      ap (λ (x : Runner). x.pool) (sym came.is),
-      ap (λ (x : Runner). x.user) (sym came.is),
-      ap (λ (x : Runner). x.floor) (sym came.is),
-    )
-waited-as t c r came numbered (inr new) = inr (ap (λ (x : Runner). x.query) came.is ∙ new)
+waited-as : (t : State) (event : Event) (w : Waiter) → AreNumbered t.last_query t.waiting t.running → IsAmong w t.waiting ⊎ WasSubmitted t event w → HasWaited t event w
+waited-as t event w numbered (inl among) = inl (number-found t.last_query t.waiting t.running w numbered among)
+waited-as t event w numbered (inr new) = inr new
 
-admitted-settled : (t c new : State) (query : ℕ) (r : Runner) → RunsAs (settled c) new → AreNumbered t.last_query t.waiting t.running
-    → ((w : Waiter) → IsAmong w c.waiting → IsAmong w t.waiting ⊎ (w.query ≡ t.last_query + 1))
-    → (let n : Option Runner = None in runner_called c.running query ≡ n) → runner_called (settled c).running query ≡ Some r → IsAdmitted t new r
-admitted-settled t c new query r like numbered waits none found =
+-- a query begins to run by the definitions and the clock alone
+started-as : (c new : State) (w : Waiter) → new.definitions ≡ c.definitions → new.clock ≡ c.clock → started c w ≡ started new w
+started-as c new w definitions clock =
+    ap (λ d. let u : State = record c { definitions = d } in started u w) (sym definitions)
+    ∙ ap (λ k. let u : State = record c { definitions = new.definitions; clock = k } in started u w) (sym clock)
+
+admitted-settled : (t c new : State) (event : Event) (query : ℕ) (r : Runner) → RunsAs (settled c) new → AreNumbered t.last_query t.waiting t.running
+    → ((w : Waiter) → IsAmong w c.waiting → IsAmong w t.waiting ⊎ WasSubmitted t event w)
+    → (let n : Option Runner = None in runner_called c.running query ≡ n) → runner_called (settled c).running query ≡ Some r → IsAdmitted t new event r
+admitted-settled t c new event query r like numbered waits none found =
     let came = behind-found c query r none found in
     let rest = rest-settled c in
     let definitions : new.definitions ≡ c.definitions = like.definitions ∙ rest.definitions in
     let clock : new.clock ≡ c.clock = like.clock ∙ rest.clock in
-    let asked : r.grant ≡ ask c.definitions (pool_row c.definitions r.pool) r.user r.floor =
-    subst (λ (x : Runner). x.grant ≡ ask c.definitions (pool_row c.definitions x.pool) x.user x.floor) (sym came.is) refl in
     let within = within-settled c query r none found in
     record {
-      waited = waited-as t c r came numbered (waits came.waiter came.among);
-      grant = subst (λ d. r.grant ≡ ask d (pool_row d r.pool) r.user r.floor) (sym definitions) asked;
-      start = ap (λ (x : Runner). x.start) came.is ∙ sym clock;
+      waiter = came.waiter;
+      waited = waited-as t event came.waiter numbered (waits came.waiter came.among);
+      is = came.is ∙ started-as c new came.waiter definitions clock;
       within =
           subst (λ d. used r.pool (holdings new.running) ≤ cap d (pool_row d r.pool)) (sym definitions)
           (subst (λ (l : List Runner). used r.pool (holdings l) ≤ cap c.definitions (pool_row c.definitions r.pool)) (sym like.running) within);
@@ -410,18 +411,18 @@ keeps-settled t c new event answer frees numbered like =
     let come = come-settled c in
     let turned = frees.turned in
     record {
-      kept = λ query grant was other.
-          let r = grant-found (runner_called t.running query) grant was in
-          let there = turned.kept query r.0 r.1.0 other in
-          ap (λ l. grant_called l query) (like.running ∙ come.split)
-          ∙ ap (option_map (λ (x : Runner). x.grant)) (found-front (λ (x : Runner). eqb x.query query) r.0 c.running come.more there) ∙ ap (λ g. Some g) r.1.1;
+      kept = λ query r was other.
+          ap (λ l. runner_called l query) (like.running ∙ come.split)
+          ∙ found-front (λ (x : Runner). eqb x.query query) r c.running come.more (turned.kept query r was other);
       freed = λ query is. (
         frees.says query is,
         ap (λ l. grant_called l query) like.running
-        ∙ ap (option_map (λ (x : Runner). x.grant)) (gone-settled c query (turned.gone query is) (turned.waits_not query is)),
+            ∙ ap (option_map (λ (x : Runner). x.grant)) (gone-settled c query (turned.gone query is) (turned.waits_not query is)),
       );
+      whole = frees.whole;
+      order = (come.more, like.running ∙ come.split ∙ ap (λ l. l ++ come.more) frees.rest);
       admitted = λ query r found none.
-          admitted-settled t c new query r like numbered turned.waits (turned.none query (grant-none (runner_called t.running query) none))
+          admitted-settled t c new event query r like numbered turned.waits (turned.none query none)
           (ap (λ l. runner_called l query) (sym like.running) ∙ found);
     }
 
@@ -434,6 +435,15 @@ freed-same s t (Submit session floor) answer same = refl
 freed-same s t (Poll session) answer same = refl
 freed-same s t (Finish session) answer same =
     ap (λ (l : List Runner). option_and_then (λ grant. option_map (λ (r : Runner). r.query) (runner_of l session)) (released answer)) same
+
+rest-same : (s t : State) (event : Event) (answer : Reply) → t.running ≡ s.running → still_running t event answer ≡ still_running s event answer
+rest-same s t (Define statement) answer same = same
+rest-same s t (Open user) answer same = same
+rest-same s t (SetPool session pool) answer same = same
+rest-same s t (Submit session floor) answer same = same
+rest-same s t (Poll session) answer same = same
+rest-same s t (Finish session) answer same =
+    ap (λ (l : List Runner). elim (released answer) [ Some grant ↦ without_runner session l | None ↦ l ]) same
 
 -- deadlines leave the running queries as they were, and none waits that did not
 pub record WaitsLess (s t : State) : Type 0 where
@@ -451,41 +461,43 @@ less-found s at =
     })
     (moved_to s at) (record { running = refl; last_query = refl; waits = λ w among. among })
 
-waited-before : (s t : State) (r : Runner) → WaitsLess s t → AreNumbered s.last_query s.waiting s.running → HasWaited t r → HasWaited s r
-waited-before s t r less numbered (inl h) =
-    let w = h.0 in
-    let among = less.waits w (found_among (λ x. eqb x.query r.query) w t.waiting h.1) in
-    let number : w.query ≡ r.query = eqb-true w.query r.query (found_passes (λ (x : Waiter). eqb x.query r.query) w t.waiting h.1) in
-    inl (w, ap (waiter_called s.waiting) (sym number) ∙ number-found s.last_query s.waiting s.running w numbered among, h.2, h.3, h.4)
-waited-before s t r less numbered (inr new) = inr (new ∙ ap (λ n. n + 1) less.last_query)
+waited-before : (s t : State) (event : Event) (w : Waiter) → WaitsLess s t → AreNumbered s.last_query s.waiting s.running → HasWaited t event w → HasWaited s event w
+waited-before s t event w less numbered (inl h) =
+    inl (number-found s.last_query s.waiting s.running w numbered (less.waits w (found_among (λ x. eqb x.query w.query) w t.waiting h)))
+waited-before s t event w less numbered (inr new) = inr (new.0, new.1 ∙ ap (λ n. n + 1) less.last_query)
 
 keeps-found : (s t new : State) (event : Event) (answer : Reply) → WaitsLess s t → AreNumbered s.last_query s.waiting s.running → KeepsGrants t new event answer
     → KeepsGrants s new event answer
 keeps-found s t new event answer less numbered h =
     let same = freed-same s t event answer less.running in
     record {
-      kept = λ query grant was other. h.kept query grant (ap (λ l. grant_called l query) less.running ∙ was) (λ is. other (sym same ∙ is));
+      kept = λ query r was other. h.kept query r (ap (λ l. runner_called l query) less.running ∙ was) (λ is. other (sym same ∙ is));
       freed = λ query is. let f = h.freed query (same ∙ is) in (ap (λ l. grant_called l query) (sym less.running) ∙ f.0, f.1);
+      whole = λ session grant is gives. let f = h.whole session grant is gives in (f.0, sym same ∙ f.1);
+      order = (h.order.0, h.order.1 ∙ ap (λ l. l ++ h.order.0) (rest-same s t event answer less.running));
       admitted = λ query r found none.
-          let a = h.admitted query r found (ap (λ l. grant_called l query) less.running ∙ none) in
-          record { waited = waited-before s t r less numbered a.waited; grant = a.grant; start = a.start; within = a.within };
+          let a = h.admitted query r found (ap (λ l. runner_called l query) less.running ∙ none) in
+          record { waiter = a.waiter; waited = waited-before s t event a.waiter less numbered a.waited; is = a.is; within = a.within };
     }
 
 -- an event that changes nothing keeps them
-keeps-same : (s : State) (event : Event) (answer : Reply) → (let o : Option ℕ = None in freed_by s event answer ≡ o) → KeepsGrants s s event answer
-keeps-same s event answer none = record {
-  kept = λ query grant was other. was;
+keeps-same : (s : State) (event : Event) (answer : Reply) → (let o : Option ℕ = None in freed_by s event answer ≡ o) → IsNoFinish event answer
+    → s.running ≡ still_running s event answer → KeepsGrants s s event answer
+keeps-same s event answer none no_finish rest = record {
+  kept = λ query r was other. was;
   freed = λ query is. absurd (let e : None ≡ Some query = sym none ∙ is in cc);
-  admitted = λ query r found gone. absurd (let e : Some r.grant ≡ None = sym (ap (option_map (λ (x : Runner). x.grant)) found) ∙ gone in cc);
+  whole = λ session grant is gives. absurd (no_finish session grant is gives);
+  order = ([], rest ∙ sym (append-nil (still_running s event answer)));
+  admitted = λ query r found gone. absurd (let e : Some r ≡ None = sym found ∙ gone in cc);
 }
 
-quiet-none : (s t u : State) (seat : ℕ) (event : Event) (answer : Answer) → IsQuiet t seat event answer → (let o : Option ℕ = None in freed_by s event (reply_of u answer) ≡ o)
-quiet-none s t u seat _ _ (refuses event r is) = refused-none s event r
-quiet-none s t u seat _ _ (repeats session pool x found same) = refl
-quiet-none s t u seat _ _ (tells session x found active) = refl
+keeps-quiet : (s t u : State) (seat : ℕ) (event : Event) (answer : Answer) → IsQuiet t seat event answer → KeepsGrants s s event (reply_of u answer)
+keeps-quiet s t u seat _ _ (refuses event r is) = keeps-same s event (reply.Refused r) (refused-none s event r) (λ n grant is gives. absurd (cc)) (refused-rest s event r)
+keeps-quiet s t u seat _ _ (repeats session pool x found same) = keeps-same s (SetPool session pool) reply.Set refl (λ n grant is gives. absurd (cc)) refl
+keeps-quiet s t u seat _ _ (tells session x found active) = keeps-same s (Poll session) (told u x.number) refl (λ n grant is gives. absurd (cc)) refl
 
 keeps-still : (s t : State) (seat : ℕ) (event : Event) (c : Change) → IsTried t seat event c → c.changed ≡ false → KeepsGrants s s event (reply_of c.state c.answer)
-keeps-still s t seat event _ (stays answer still) plain = keeps-same s event (reply_of t answer) (quiet-none s t t seat event answer still)
+keeps-still s t seat event _ (stays answer still) plain = keeps-quiet s t t seat event answer still
 keeps-still s t seat event _ (changes c is loud) plain = absurd (false≢true (sym plain ∙ loud))
 
 tried-frees : (t u : State) (seat : ℕ) (event : Event) (c : Change) → IsTried t seat event c → IsHealthy t → Frees t event (reply_of u c.answer) c.state
@@ -500,15 +512,15 @@ grants-step s seat at event h =
     let there = found-facts s at h in
     outcome-turn (λ o. KeepsGrants s o.state event o.reply) s seat event c (has_due s at || c.changed)
     (λ settles.
-      let u = settled c.state in
-      let beside = (beside-answered u c.answer).beside in
-      let new = (entered seat event u c.answer).state in
-      keeps-found s t new event (reply_of u c.answer) (less-found s at) h.numbered
-      (keeps-settled t c.state new event (reply_of u c.answer) (tried-frees t u seat event c is there) there.numbered
-      (record {
-        running = ap (λ (v : State). v.running) beside;
-        definitions = ap (λ (v : State). v.definitions) beside;
-        clock = ap (λ (v : State). v.clock) beside;
-      }))
+    let u = settled c.state in
+    let beside = (beside-answered u c.answer).beside in
+    let new = (entered seat event u c.answer).state in
+    keeps-found s t new event (reply_of u c.answer) (less-found s at) h.numbered
+    (keeps-settled t c.state new event (reply_of u c.answer) (tried-frees t u seat event c is there) there.numbered
+    (record {
+      running = ap (λ (v : State). v.running) beside;
+      definitions = ap (λ (v : State). v.definitions) beside;
+      clock = ap (λ (v : State). v.clock) beside;
+    }))
     )
     (λ still. keeps-still s t seat event c is (or_right_false (has_due s at) c.changed still))

@@ -1,10 +1,9 @@
 -- What an event does to the running queries' grants, and to the memory in force.
-use Rattle.std.specs.Prelude.{◌≡◌, ◌≢◌, ◌⊎◌, ℕ, ◌+◌, ◌==◌, ◌<◌, ◌≤◌, List, [], ◌∷◌, Option, Some, None, option_map, option_and_then, find}
+use Rattle.std.specs.Prelude.{◌≡◌, ◌≢◌, ◌⊎◌, ℕ, ◌+◌, ◌==◌, ◌<◌, ◌≤◌, List, [], ◌∷◌, ◌++◌, Option, Some, None, option_map, option_and_then, find}
 use Rattle.rm_base.specs.declared.definitions.Definitions.{Definitions}
 use Rattle.rm_base.specs.declared.entry.Entry.{Entry}
 use Rattle.rm_base.specs.declared.event.Event.{Event}
 use Rattle.rm_base.specs.declared.event.Event.TheVariants.{Define, Open, SetPool, Submit, Poll, Finish}
-use Rattle.rm_base.specs.declared.name.Name.{Name}
 use Rattle.rm_base.specs.declared.reply.Reply.{Reply}
 use Rattle.rm_base.specs.declared.reply.Reply.TheVariants as reply
 use Rattle.rm_rules.specs.declared.state.Session.{Session}
@@ -12,7 +11,8 @@ use Rattle.rm_rules.specs.declared.state.Runner.{Runner}
 use Rattle.rm_rules.specs.declared.state.Waiter.{Waiter}
 use Rattle.rm_rules.specs.Definitions.{pool_row, total}
 use Rattle.rm_rules.specs.Ask.{cap, ask}
-use Rattle.rm_rules.specs.State.{State, session_of, session_pool}
+use Rattle.rm_rules.specs.Admission.{started}
+use Rattle.rm_rules.specs.State.{State, session_of, session_pool, without_runner}
 use Rattle.rm_rules.specs.Holdings.{holdings}
 use Rattle.rm_rules.specs.Accounting.{used}
 use Rattle.rm_rules.specs.Change.{runner_of}
@@ -70,26 +70,39 @@ freed_by s (Submit session floor) answer = None
 freed_by s (Poll session) answer = None
 freed_by s (Finish session) answer = option_and_then (λ grant. query_of s session) (released answer)
 
--- the query waited, or this event submitted it
-abbrev pub HasWaited : State → Runner → Type 0
-HasWaited old r =
-    ((w : Waiter) × (waiter_called old.waiting r.query ≡ Some w) × (w.pool ≡ r.pool) × (w.user ≡ r.user) × (w.floor ≡ r.floor))
-    ⊎ (r.query ≡ old.last_query + 1)
+-- the running queries that an event with this reply leaves, in their order
+abbrev pub still_running : State → Event → Reply → List Runner
+still_running s (Define statement) answer = s.running
+still_running s (Open user) answer = s.running
+still_running s (SetPool session pool) answer = s.running
+still_running s (Submit session floor) answer = s.running
+still_running s (Poll session) answer = s.running
+still_running s (Finish session) answer = elim (released answer) [ Some grant ↦ without_runner session s.running | None ↦ s.running ]
 
--- A query that runs now and did not before: it waited, or this event submitted it, it has its ask by the definitions in
+-- this event submitted the query
+abbrev pub WasSubmitted : State → Event → Waiter → Type 0
+WasSubmitted old event w = (event ≡ Submit w.session w.floor) × (w.query ≡ old.last_query + 1)
+
+-- the query waited, or this event submitted it
+abbrev pub HasWaited : State → Event → Waiter → Type 0
+HasWaited old event w = (waiter_called old.waiting w.query ≡ Some w) ⊎ WasSubmitted old event w
+
+-- A query that runs now and did not before is one that waited, as it begins to run now, with its ask by the definitions in
 -- force, and with it its pool's use is within the pool's cap.
-pub record IsAdmitted (old new : State) (r : Runner) : Type 0 where
-  pub waited : HasWaited old r
-  pub grant : r.grant ≡ ask new.definitions (pool_row new.definitions r.pool) r.user r.floor
-  pub start : r.start ≡ new.clock
+pub record IsAdmitted (old new : State) (event : Event) (r : Runner) : Type 0 where
+  pub waiter : Waiter
+  pub waited : HasWaited old event waiter
+  pub is : r ≡ started new waiter
   pub within : used r.pool (holdings new.running) ≤ cap new.definitions (pool_row new.definitions r.pool)
 
--- An event ends at most the grant that its reply says is given back, whole; it changes no other, and each new one is
--- that of an admitted query.
+-- An event ends at most the query whose grant its reply says is given back, whole. The others run on as they did, in their
+-- order, and those that are new come behind them, each an admitted query.
 pub record KeepsGrants (old new : State) (event : Event) (answer : Reply) : Type 0 where
-  pub kept : (query grant : ℕ) → grant_called old.running query ≡ Some grant → freed_by old event answer ≢ Some query → grant_called new.running query ≡ Some grant
+  pub kept : (query : ℕ) (r : Runner) → runner_called old.running query ≡ Some r → freed_by old event answer ≢ Some query → runner_called new.running query ≡ Some r
   pub freed : (query : ℕ) → freed_by old event answer ≡ Some query → (grant_called old.running query ≡ released answer) × (grant_called new.running query ≡ None)
-  pub admitted : (query : ℕ) (r : Runner) → runner_called new.running query ≡ Some r → grant_called old.running query ≡ None → IsAdmitted old new r
+  pub whole : (session grant : ℕ) → event ≡ Finish session → released answer ≡ Some grant → (query : ℕ) × (freed_by old event answer ≡ Some query)
+  pub order : (more : List Runner) × (new.running ≡ still_running old event answer ++ more)
+  pub admitted : (query : ℕ) (r : Runner) → runner_called new.running query ≡ Some r → runner_called old.running query ≡ None → IsAdmitted old new event r
 
 -- what an entry of a history does to the bytes
 pub record KeepsBytes (old new : State) (entry : Entry) : Type 0 where
