@@ -10,7 +10,7 @@ use Rattle.pool_sql.specs.declared.setting.Setting.{Setting}
 use Rattle.pool_sql.specs.declared.setting.Setting.TheVariants as setting
 use Rattle.pool_sql.specs.declared.stop.Stop.{Stop}
 use Rattle.pool_sql.specs.Value.{value_of}
-use Rattle.pool_sql.specs.Machine.{Stepped, Edge, is_minus, on_key, on_negative, on_parameter, on_value, step}
+use Rattle.pool_sql.specs.Machine.{Stepped, is_minus, on_negative, on_parameter, on_value, step}
 use Rattle.std.proofs.Common.{min, pos, nat_abs, neg_ℤ, lit<, lit≤}
 use Rattle.rm_base.specs.declared.limits.TheConstants.{CONCURRENCY_MOST, PRIORITY_MOST, SECOND_MS, SPAN_MOST, THRESHOLD_SECONDS_MOST}
 use Rattle.rm_words.specs.Token.{capped, most}

@@ -1,5 +1,5 @@
 -- key words
-use Rattle.std.proofs.Common.{◌≡◌, ℕ, true, List, refl, ap}
+use Rattle.std.proofs.Common.{◌≡◌, ℕ, true, List, ap}
 use Rattle.std.proofs.lemmas.Slice.Eq.{bytes_eq-Decides}
 use Rattle.rm_words.specs.Token.{Token, Bare, Number, Quoted, Sign, folded, is_key}
 use Rattle.pool_sql.specs.Grammar.{key}

@@ -1,5 +1,5 @@
 -- the name that a text is
-use Rattle.std.proofs.Common.{◌≡◌, ℕ, ◌+◌, ◌-◌, Bool, true, false, if◌then◌else◌, Option, Some, None, List, length, refl, sym, ◌∙◌, ap, arith}
+use Rattle.std.proofs.Common.{◌≡◌, ℕ, ◌+◌, ◌-◌, Bool, true, false, if◌then◌else◌, Some, None, List, length, refl, sym, ◌∙◌, ap, arith}
 use Rattle.std.specs.Str.{str_to_ascii_lowercase}
 use Rattle.rm_base.specs.declared.limits.TheConstants.{NAME_MOST}
 use Rattle.rm_base.specs.declared.name.Name.{Name}

@@ -43,17 +43,21 @@ unit_bytes c =
     else (if to_ascii_lowercase c == 103 then Some GIBI
     else (if to_ascii_lowercase c == 116 then Some TEBI else None)))
 
+-- a number as a percentage
 abbrev pub percent : Result ℕ Fault → Result Size Fault
 percent (Ok n) = Ok (Percent n)
 percent (Err fault) = Err fault
 
+-- a percentage, up to the whole
 abbrev pub percent_in : ℕ → Result Size Fault
 percent_in n = percent (within 0 PERCENT_MOST n)
 
+-- a number as a size in bytes
 abbrev pub bytes : Result ℕ Fault → Result Size Fault
 bytes (Ok n) = Ok (Bytes n)
 bytes (Err fault) = Err fault
 
+-- so many of a unit, up to the greatest size
 abbrev pub bytes_in : ℕ → Option ℕ → Result Size Fault
 bytes_in n None = Err Form
 bytes_in n (Some unit) = bytes (within 0 MEMORY_MOST (n * unit))
@@ -63,6 +67,7 @@ abbrev pub size_in : ℕ → List ℕ → Result Size Fault
 size_in n (c ∷ []) = if c == 37 then percent_in n else bytes_in n (unit_bytes c)
 size_in n _ = Err Form
 
+-- the size that a text says
 abbrev pub size_in_text : List ℕ → Result Size Fault
 size_in_text text =
     if digit_count text == 0 then Err Form else size_in (front_number text) (behind_digits text)
@@ -72,6 +77,7 @@ abbrev pub size_of : Token → Result Size Fault
 size_of (Quoted text) = size_in_text text
 size_of _ = Err Form
 
+-- the text is one of these
 abbrev pub is_among : List (List ℕ) → List ℕ → Bool
 is_among texts text = list_any (bytes_eq text) texts
 
@@ -83,6 +89,7 @@ unit_ms unit =
     else (if is_among (codes "minute" ∷ codes "minutes" ∷ []) unit then Some MINUTE_MS
     else (if is_among (codes "hour" ∷ codes "hours" ∷ []) unit then Some HOUR_MS else None)))
 
+-- so many of a unit, from a least span to the greatest
 abbrev pub ms_in : ℕ → ℕ → Option ℕ → Result ℕ Fault
 ms_in least n None = Err Form
 ms_in least n (Some unit) = within least SPAN_MOST (n * unit)
@@ -92,6 +99,7 @@ abbrev pub span_in : ℕ → ℕ → List ℕ → Result ℕ Fault
 span_in least n (c ∷ unit) = if c == 32 then ms_in least n (unit_ms unit) else Err Form
 span_in least n [] = Err Form
 
+-- the span that a text says
 abbrev pub span_in_text : ℕ → List ℕ → Result ℕ Fault
 span_in_text least text =
     if digit_count text == 0 then Err Form else span_in least (front_number text) (behind_digits text)

@@ -26,6 +26,7 @@ use Rattle.pool_sql.specs.Parameter.{is_affinity, parameter_of, takes_any}
 use Rattle.pool_sql.specs.Setting.{no_pool_change, no_user_change, set}
 use Rattle.pool_sql.specs.Value.{negative_of, optional_name, value_of}
 
+-- where one word more leads, or why it ends the reading
 abbrev pub Stepped : Type 0
 Stepped = Result Progress Stop
 
@@ -60,10 +61,12 @@ abbrev pub to_key : Giving → List ℕ
 to_key giving.Grant = codes "TO"
 to_key giving.Revoke = codes "FROM"
 
+-- the statement on USAGE of a pool
 abbrev pub usage_given : Giving → Name → Name → Statement
 usage_given giving.Grant p n = statement.GrantUsage p n
 usage_given giving.Revoke p n = statement.RevokeUsage p n
 
+-- the statement on a role
 abbrev pub role_given : Giving → Name → Name → Statement
 role_given giving.Grant r u = statement.GrantRole r u
 role_given giving.Revoke r u = statement.RevokeRole r u
@@ -83,10 +86,12 @@ keyed st parameter.Cascade = CascadeTo st
 keyed st parameter.ResourcePool = UserPool st
 keyed st p = ValueDue st p
 
+-- what is wrong with a bare word that names no parameter
 abbrev pub stranger : Bool → Token → Stop
 stranger true t = if is_affinity t then stop.NotSupported else stop.Unknown
 stranger false t = stop.Syntax
 
+-- the symbol `;`
 abbrev pub is_semicolon : Symbol → Bool
 is_semicolon symbol.Semicolon = true
 is_semicolon _ = false
@@ -98,18 +103,22 @@ on_other b st (Sign s) = if b && is_semicolon s then Ok (Ended st) else Err stop
 on_other b st (Number n) = Err stop.Syntax
 on_other b st (Quoted text) = Err stop.Syntax
 
+-- a word behind a body
 abbrev pub on_parameter : Bool → Statement → Token → Option Parameter → Stepped
 on_parameter b st t None = on_other b st t
 on_parameter b st t (Some p) = if is_named p st then Err (stop.Repeated p) else Ok (keyed st p)
 
+-- a `-` before a PRIORITY
 abbrev pub is_minus : Parameter → Token → Bool
 is_minus parameter.Priority (Sign symbol.Minus) = true
 is_minus _ _ = false
 
+-- a word where the value of a parameter is due
 abbrev pub on_value : Statement → Parameter → Token → Result Setting Stop → Stepped
 on_value st p t (Ok x) = Ok (Part true (set st x))
 on_value st p t (Err why) = if is_minus p t then Ok (MinusRead st) else Err why
 
+-- a word behind the `-` of a PRIORITY
 abbrev pub on_negative : Statement → Result ℤ Stop → Stepped
 on_negative st (Ok n) = Ok (Part true (set st (setting.Priority n)))
 on_negative st (Err why) = Err why
@@ -152,6 +161,7 @@ finish (Part true st) = Some st
 finish (Ended st) = Some st
 finish _ = None
 
+-- what is left is read from where a word led
 abbrev pub onward : Stepped → (Progress → Stepped) → Stepped
 onward (Ok q) next = next q
 onward (Err why) next = Err why

@@ -18,6 +18,7 @@ use Rattle.pool_sql.specs.declared.shown.Value.TheVariants as value
 use Rattle.pool_sql.specs.declared.setting.Setting.{Setting}
 use Rattle.pool_sql.specs.declared.setting.Setting.TheVariants as setting
 
+-- the parameter of a setting
 abbrev pub parameter_named : Setting → Parameter
 parameter_named (setting.MemorySize x) = parameter.MemorySize
 parameter_named (setting.MaxMemorySize x) = parameter.MaxMemorySize
@@ -45,6 +46,7 @@ abbrev pub value_or : {T : Type 0} → Value → (T → Value) → Option T → 
 value_or none of None = none
 value_or none of (Some x) = of x
 
+-- how a PRIORITY is printed: a negative one behind a `-`
 abbrev pub priority_value : ℤ → Value
 priority_value (pos n) = value.Number n
 priority_value (negsuc n) = value.Negative (n + 1)
@@ -66,6 +68,7 @@ value_in (setting.Cascade x) = value_or value.Absent (λ n. value.OfName n) x
 value_in (setting.ResourcePool x) = value_or value.Absent (λ n. value.OfName n) x
 value_in (setting.MemoryCap x) = value_or value.Absent (λ y. value.OfSize y) x
 
+-- the key word of a level
 abbrev pub level_text : Level → List ℕ
 level_text Low = codes "LOW"
 level_text Medium = codes "MEDIUM"
@@ -87,6 +90,7 @@ value_text (value.OfName name) = name_text name
 abbrev pub setting_text : Setting → List ℕ
 setting_text x = codes " " ++ (keys_text (parameter_named x) ++ (codes " " ++ value_text (value_in x)))
 
+-- what is set, each behind the one before
 abbrev pub settings_text : List (Option Setting) → List ℕ
 settings_text [] = []
 settings_text (None ∷ xs) = settings_text xs
@@ -109,6 +113,7 @@ pool_settings c =
     ∷ option_map (λ x. setting.Cascade x) c.cascade
     ∷ []
 
+-- the same of a user's change
 abbrev pub user_settings : UserChange → List (Option Setting)
 user_settings c =
     option_map (λ x. setting.ResourcePool x) c.pool

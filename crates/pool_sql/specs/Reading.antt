@@ -12,6 +12,7 @@ use Rattle.pool_sql.specs.declared.reading.ReadError.TheVariants.{Refused, Memor
 use Rattle.pool_sql.specs.Machine.{Stepped, finish, step}
 use Rattle.pool_sql.specs.Text.{IsRefused, refusal_at, token_in}
 
+-- behind the last word of a text that is cut whole
 abbrev pub finished : List ℕ → Option Statement → Result Statement Refusal
 finished text (Some st) = Ok st
 finished text None = Err (Syntax (length text))
@@ -21,6 +22,7 @@ abbrev pub ends : List ℕ → Option ℕ → Progress → Result Statement Refu
 ends text (Some place) p = Err (Syntax place)
 ends text None p = finished text (finish p)
 
+-- the words behind a span are read on, or the word at it is refused
 abbrev pub next_word : Span → Stepped → (Progress → Result Statement Refusal) → Result Statement Refusal
 next_word span (Ok q) next = next q
 next_word span (Err why) next = Err (refusal_at span.start why)

@@ -24,6 +24,7 @@ no_pool_change = record {
   cascade = None;
 }
 
+-- the same of a user's
 abbrev pub no_user_change : UserChange
 no_user_change = record { pool = None; memory_cap = None; cap_ms = None }
 

@@ -14,6 +14,7 @@ use Rattle.pool_sql.specs.Grammar.{IsFront, IsWhy, Spells}
 abbrev pub token_in : List ℕ → Span → Token
 token_in text span = token_of (word_at text span)
 
+-- what the words at the spans say
 abbrev pub tokens_in : List ℕ → List Span → List Token
 tokens_in text spans = map (token_in text) spans
 

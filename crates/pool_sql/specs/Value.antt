@@ -21,6 +21,7 @@ use Rattle.pool_sql.specs.declared.stop.Stop.TheVariants.{Syntax, NotSupported, 
 use Rattle.pool_sql.specs.Amount.{number_between, size_of, span_of, timeout_of}
 use Rattle.pool_sql.specs.Names.{name_of}
 
+-- DEFAULT
 abbrev pub is_default : Token → Bool
 is_default t = is_key t (codes "DEFAULT")
 
@@ -36,6 +37,7 @@ is_auto t = is_key t (codes "AUTO") || is_default t
 abbrev pub defaults : PoolRow
 defaults = default_pool_row general
 
+-- a word of another form is Syntax, an amount out of its range is Range
 abbrev pub stop_of : Parameter → Fault → Stop
 stop_of p Form = Syntax
 stop_of p Outside = Range p
@@ -55,9 +57,11 @@ optional p false (Err fault) = Err (stop_of p fault)
 abbrev pub unless_default : {T : Type 0} → Token → T → Result T Stop → Result T Stop
 unless_default t x value = if is_default t then Ok x else value
 
+-- a MEMORYSIZE: a size, by default none of the memory
 abbrev pub memory_size_of : Token → Result Size Stop
 memory_size_of t = unless_default t (Percent 0) (taken parameter.MemorySize (size_of t))
 
+-- a size, or none for NONE
 abbrev pub optional_size : Parameter → Token → Result (Option Size) Stop
 optional_size p t = optional p (is_none t) (size_of t)
 
@@ -65,10 +69,12 @@ optional_size p t = optional p (is_none t) (size_of t)
 abbrev pub parallelism_of : Parameter → Bool → Token → Result (Option ℕ) Stop
 parallelism_of p none t = optional p none (number_between 1 CONCURRENCY_MOST t)
 
+-- a number with its sign
 abbrev pub signed : Parameter → (ℕ → ℤ) → Result ℕ Fault → Result ℤ Stop
 signed p sign (Ok n) = Ok (sign n)
 signed p sign (Err fault) = Err (stop_of p fault)
 
+-- a PRIORITY without a `-`; HOLD is not supported
 abbrev pub priority_of : Token → Result ℤ Stop
 priority_of t =
     if is_key t (codes "HOLD") then Err NotSupported
@@ -78,6 +84,7 @@ priority_of t =
 abbrev pub negative_of : Token → Result ℤ Stop
 negative_of t = signed parameter.Priority (λ n. neg_ℤ (pos n)) (number_between 0 (nat_abs PRIORITY_MOST) t)
 
+-- a RUNTIMEPRIORITY: HIGH, MEDIUM or LOW
 abbrev pub level_of : Token → Result Level Stop
 level_of t =
     if is_key t (codes "HIGH") then Ok High
@@ -85,19 +92,23 @@ level_of t =
     else (if is_key t (codes "LOW") then Ok Low
     else unless_default t defaults.runtime_priority (Err Syntax)))
 
+-- a RUNTIMEPRIORITYTHRESHOLD, in seconds
 abbrev pub threshold_of : Token → Result ℕ Stop
 threshold_of t =
     unless_default t defaults.threshold_s
     (taken parameter.RuntimePriorityThreshold (number_between 0 THRESHOLD_SECONDS_MOST t))
 
+-- a QUEUETIMEOUT, or none for NONE
 abbrev pub queue_timeout_of : Token → Result (Option ℕ) Stop
 queue_timeout_of t =
     unless_default t defaults.queue_ms
     (optional parameter.QueueTimeout (is_key t (codes "NONE")) (timeout_of t))
 
+-- a RUNTIMECAP, or none for NONE
 abbrev pub runtime_cap_of : Token → Result (Option ℕ) Stop
 runtime_cap_of t = optional parameter.RuntimeCap (is_none t) (span_of 1 t)
 
+-- a name that is due
 abbrev pub some_name : Option Name → Result (Option Name) Stop
 some_name None = Err Syntax
 some_name (Some name) = Ok (Some name)
@@ -106,6 +117,7 @@ some_name (Some name) = Ok (Some name)
 abbrev pub optional_name : Token → Result (Option Name) Stop
 optional_name t = if is_none t then Ok None else some_name (name_of t)
 
+-- what a parameter is set to by its value
 abbrev pub as_setting : {T : Type 0} → (T → Setting) → Result T Stop → Result Setting Stop
 as_setting variant (Ok x) = Ok (variant x)
 as_setting variant (Err stop) = Err stop

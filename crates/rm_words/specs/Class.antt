@@ -17,6 +17,7 @@ abbrev pub is_mark : ℕ → Bool
 is_mark c =
     (c == 40) || (c == 41) || (c == 44) || (c == 46) || (c == 42) || (c == 59) || (c == 45)
 
+-- what a byte may do in a word
 abbrev pub class_of : ℕ → Class
 class_of c =
     if begins_bare c then Letter

@@ -25,6 +25,7 @@ pub data IsCut : ℕ → List ℕ → List Span → Option ℕ → Type 0 where
 abbrev pub word_at : List ℕ → Span → List ℕ
 word_at text span = take (span.end - span.start) (drop span.start text)
 
+-- the bytes at each of the spans
 abbrev pub words_at : List ℕ → List Span → List (List ℕ)
 words_at text spans = map (word_at text) spans
 

@@ -6,6 +6,7 @@ use Rattle.rm_words.specs.declared.scan.Scan.{Scan}
 use Rattle.rm_words.specs.declared.scan.Scan.TheVariants as scan
 use Rattle.rm_words.specs.Word.{goes_on, is_digit}
 
+-- what a word may become that begins with such a byte
 abbrev pub begun : Class → Scan
 begun class.Letter = scan.Bare
 begun class.Digit = scan.Number
@@ -17,6 +18,7 @@ begun class.Equal = scan.Whole
 begun class.Mark = scan.Whole
 begun class.Other = scan.Dead
 
+-- one byte more
 abbrev pub step : Scan → Class → Scan
 step scan.Start k = begun k
 step scan.Bare k = if goes_on k then scan.Bare else scan.Dead
@@ -43,6 +45,7 @@ accepts scan.Greater = true
 accepts scan.Whole = true
 accepts _ = false
 
+-- no word begins so
 abbrev pub is_dead : Scan → Bool
 is_dead scan.Dead = true
 is_dead _ = false

@@ -20,6 +20,7 @@ pub data Token : Type 0 where
   Quoted : List ℕ → Token
   Sign : Symbol → Token
 
+-- the word in lower case
 abbrev pub folded : List ℕ → List ℕ
 folded word = map to_ascii_lowercase word
 
@@ -66,6 +67,7 @@ token_by class.Digit word = Number (digits_value 10 word)
 token_by class.Quote word = Quoted (inner word)
 token_by _ word = Sign (symbol_of word)
 
+-- what a word says
 abbrev pub token_of : List ℕ → Token
 token_of word = token_by (class_of (slice_index word 0)) word
 
@@ -117,6 +119,7 @@ undoubled_from false (c ∷ cs) = c ∷ undoubled_from (c == 39) cs
 undoubled_from true (c ∷ cs) =
     if c == 39 then undoubled_from false cs else c ∷ undoubled_from false cs
 
+-- the text that stands between quotes
 abbrev pub undoubled : List ℕ → List ℕ
 undoubled text = undoubled_from false text
 

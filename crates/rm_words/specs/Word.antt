@@ -11,6 +11,7 @@ goes_on Letter = true
 goes_on Digit = true
 goes_on _ = false
 
+-- a digit
 abbrev pub is_digit : Class → Bool
 is_digit Digit = true
 is_digit _ = false
@@ -25,6 +26,7 @@ abbrev pub is_number : List Class → Bool
 is_number (Digit ∷ ks) = list_all is_digit ks
 is_number _ = false
 
+-- a quote
 abbrev pub is_quote : Class → Bool
 is_quote Quote = true
 is_quote _ = false
@@ -36,6 +38,7 @@ closes half [] = half
 closes false (k ∷ ks) = closes (is_quote k) ks
 closes true (k ∷ ks) = is_quote k && closes false ks
 
+-- a quote, and a text that it opens and that is closed
 abbrev pub is_quoted : List Class → Bool
 is_quoted (Quote ∷ ks) = closes false ks
 is_quoted _ = false
@@ -51,6 +54,7 @@ is_symbol (Greater ∷ Equal ∷ []) = true
 is_symbol (Less ∷ Greater ∷ []) = true
 is_symbol _ = false
 
+-- bytes of these classes are a word
 abbrev pub are_word : List Class → Bool
 are_word ks = is_bare ks || is_number ks || is_quoted ks || is_symbol ks
 

@@ -8,7 +8,6 @@ use Rattle.pool_sql.specs.Reading.{read_on}
 use Rattle.pool_sql.specs.Text.{SpellsText}
 use Rattle.pool_sql.proofs.Readings.{read-spells, read-is_refused}
 use Rattle.rm_base.proofs.WellFormed.{well_formed-in_range}
-use Rattle.rm_base.specs.WellFormed.{IsWellFormed}
 use Rattle.pool_sql.proofs.Texts.{spells-well_formed}
 use Rattle.pool_sql.proofs.reading.read_statement.Goals as goal
 
