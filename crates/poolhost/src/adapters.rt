@@ -1,5 +1,5 @@
-//! The streams of the system, as the host's source and sink. They count each failure, and tell nothing of what a stream
-//! holds.
+//! The streams of the system, as the host's source and sink. They count each failure but want of memory, and tell nothing
+//! of what a stream holds.
 
 use rm_outside::outside::Outside;
 use rm_outside::sink::Sink;
@@ -37,11 +37,11 @@ impl<R: Read + Drop> Source for ReaderSource<R> {
         for _ in 0..u64::MAX {
             match self.reader.read(into) {
                 Ok(count) => return Ok(count),
-                Err(error) => {
-                    if error.kind() != ErrorKind::Interrupted {
-                        break;
-                    }
-                }
+                Err(error) => match error.kind() {
+                    ErrorKind::Interrupted => {}
+                    ErrorKind::OutOfMemory => return Err(Outside::Memory),
+                    _ => break,
+                },
             }
         }
         self.faults = self.faults.saturating_add(1);
@@ -81,11 +81,11 @@ impl<W: Write + Drop> Sink for WriterSink<W> {
             match self.writer.write(bytes) {
                 Ok(0) => break,
                 Ok(count) => return Ok(count),
-                Err(error) => {
-                    if error.kind() != ErrorKind::Interrupted {
-                        break;
-                    }
-                }
+                Err(error) => match error.kind() {
+                    ErrorKind::Interrupted => {}
+                    ErrorKind::OutOfMemory => return Err(Outside::Memory),
+                    _ => break,
+                },
             }
         }
         self.faults = self.faults.saturating_add(1);
@@ -102,19 +102,19 @@ mod tests {
     use std::io;
     use std::test::Fail;
 
-    /// A stream that fails at once.
+    /// A stream of which each call fails so.
     #[derive(Drop)]
-    struct Broken;
+    struct Broken(io::ErrorKind);
 
     impl io::Read for Broken {
         fn read(&mut self, _into: &mut [u8]) -> io::Result<usize> {
-            Err(io::Error::from(io::ErrorKind::BrokenPipe))
+            Err(io::Error::from(self.0))
         }
     }
 
     impl io::Write for Broken {
         fn write(&mut self, _bytes: &[u8]) -> io::Result<usize> {
-            Err(io::Error::from(io::ErrorKind::BrokenPipe))
+            Err(io::Error::from(self.0))
         }
 
         fn flush(&mut self) -> io::Result<()> {
@@ -130,9 +130,12 @@ mod tests {
         assert_eq!(rt; &into[..2], b"ab".as_slice());
         assert_eq!(rt; good.read(&mut into), Ok(0));
         assert_eq!(rt; good.faults(), 0);
-        let mut broken = ReaderSource::new(Broken);
+        let mut broken = ReaderSource::new(Broken(io::ErrorKind::BrokenPipe));
         assert_eq!(rt; broken.read(&mut into), Err(Outside::Failed));
         assert_eq!(rt; broken.faults(), 1);
+        let mut wanting = ReaderSource::new(Broken(io::ErrorKind::OutOfMemory));
+        assert_eq!(rt; wanting.read(&mut into), Err(Outside::Memory));
+        assert_eq!(rt; wanting.faults(), 0);
         Ok(())
     }
 
@@ -141,10 +144,13 @@ mod tests {
         let mut good = WriterSink::new(Vec::new(rt.alloc()));
         assert_eq!(rt; good.write(b"ab"), Ok(2));
         assert_eq!(rt; good.faults(), 0);
-        let mut broken = WriterSink::new(Broken);
+        let mut broken = WriterSink::new(Broken(io::ErrorKind::BrokenPipe));
         assert_eq!(rt; broken.write(b"ab"), Err(Outside::Failed));
         assert_eq!(rt; broken.write(b""), Ok(0));
         assert_eq!(rt; broken.faults(), 1);
+        let mut wanting = WriterSink::new(Broken(io::ErrorKind::OutOfMemory));
+        assert_eq!(rt; wanting.write(b"ab"), Err(Outside::Memory));
+        assert_eq!(rt; wanting.faults(), 0);
         Ok(())
     }
 }

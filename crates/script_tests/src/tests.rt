@@ -69,8 +69,16 @@ fn compare(
 ) -> Result<(), Fail> {
     let (status, text) = expected.split_once('\n').ok_or("no status")?;
     let (got, out) = run(alloc, words, script.as_bytes())?;
-    assert_eq!(rt; format!(in alloc; "{got}")?.as_str(), status, "the status of {words:?}, {script:?}");
-    assert_eq!(rt; out.contents(), text.as_bytes(), "the text of {words:?}, {script:?}");
+    assert_eq!(rt;
+        format!(in alloc; "{got}")?.as_str(),
+        status,
+        "the status of {words:?}, {script:?}"
+    );
+    assert_eq!(rt;
+        out.contents(),
+        text.as_bytes(),
+        "the text of {words:?}, {script:?}"
+    );
     Ok(())
 }
 

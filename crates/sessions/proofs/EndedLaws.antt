@@ -1,7 +1,7 @@
 -- What each end of a script says of its status and of what was written.
-use Rattle.std.proofs.Common.{◌≡◌, ◌≢◌, ◌↔◌, ◌⊎◌, inl, inr, ℕ, ◌≤◌, ◌<◌, true, cond, ltb, List, [], length, Option, Some, None, refl, sym, ap, ◌∙◌, subst, arith, append-nil, length-append}
+use Rattle.std.proofs.Common.{◌≡◌, ◌≢◌, ◌↔◌, ◌⊎◌, inl, inr, ℕ, ◌≤◌, ◌<◌, true, cond, eqb, ltb, List, [], length, Option, Some, None, refl, sym, ap, ◌∙◌, subst, arith, append-nil, length-append}
 use Rattle.std.specs.Option.{IsSome, IfSome}
-use Rattle.std.specs.Io.KnownBytes.{Appends, Keeps}
+use Rattle.std.specs.Io.KnownBytes.{Appends, Keeps, IsAtEnd}
 use Rattle.std.proofs.lemmas.Bool.{false≢true}
 use Rattle.std.proofs.lemmas.Bool.Decides.{nat_tests}
 use Rattle.rm_base.specs.declared.limits.TheConstants.{SCRIPT_MOST}
@@ -77,68 +77,62 @@ some-none : {A : Type 0} (o : Option A) → IsSome o → o ≡ None → ⊥
 some-none None some none = false≢true some
 some-none (Some x) some none = absurd (cc)
 
+-- an end by its status
+abbrev ended_of : ℕ → Ended
+ended_of n =
+    cond (eqb n DONE) ended.Done (cond (eqb n USAGE) ended.Usage (cond (eqb n BAD_LINE) ended.BadLine
+    (cond (eqb n READ_FAULT) ended.ReadFault (cond (eqb n WRITE_FAULT) ended.WriteFault (cond (eqb n NO_MEMORY) ended.Memory ended.TooLong)))))
+
+ended_of-status : (e : Ended) → ended_of (status_of e) ≡ e
+ended_of-status ended.Done = refl
+ended_of-status ended.Usage = refl
+ended_of-status ended.BadLine = refl
+ended_of-status ended.ReadFault = refl
+ended_of-status ended.WriteFault = refl
+ended_of-status ended.Memory = refl
+ended_of-status ended.TooLong = refl
+
+-- two ends with one status are one end, and leave the same
+at_status : (o : Option Options) (s : Streams) (e f : Ended) → EndsAs o s e → status_of e ≡ status_of f → EndsAs o s f
+at_status o s e f h k = subst (EndsAs o s) (sym (ended_of-status e) ∙ ap ended_of k ∙ ended_of-status f) h
+
+none-usage : (o : Option Options) (s : Streams) (e : Ended) → EndsAs o s e → o ≡ None → status_of e ≡ USAGE
+none-usage o s ended.Done h none = absurd (some-none o h.0 none)
+none-usage o s ended.Usage h none = refl
+none-usage o s ended.BadLine h none = absurd (some-none o h.0 none)
+none-usage o s ended.ReadFault h none = absurd (some-none o h.0 none)
+none-usage o s ended.WriteFault h none = absurd (some-none o h.0 none)
+none-usage o s ended.Memory h none = absurd (some-none o h.0 none)
+none-usage o s ended.TooLong h none = absurd (some-none o h.0 none)
+
 pub usage : (o : Option Options) (s : Streams) (e : Ended) → EndsAs o s e → (status_of e ≡ USAGE) ↔ (o ≡ None)
-usage o s ended.Done h = (λ e. absurd (omega (arith, e)), λ n. absurd (some-none o h.0 n))
-usage o s ended.Usage h = (λ _. h.0, λ _. refl)
-usage o s ended.BadLine h = (λ e. absurd (omega (arith, e)), λ n. absurd (some-none o h.0 n))
-usage o s ended.ReadFault h = (λ e. absurd (omega (arith, e)), λ n. absurd (some-none o h.0 n))
-usage o s ended.WriteFault h = (λ e. absurd (omega (arith, e)), λ n. absurd (some-none o h.0 n))
-usage o s ended.Memory h = (λ e. absurd (omega (arith, e)), λ n. absurd (some-none o h.0 n))
-usage o s ended.TooLong h = (λ e. absurd (omega (arith, e)), λ n. absurd (some-none o h.0 n))
+usage o s e h = (λ k. (at_status o s e ended.Usage h k).0, none-usage o s e h)
 
 pub read_fault : (o : Option Options) (s : Streams) (e : Ended) → EndsAs o s e → status_of e ≡ READ_FAULT → Rose s.reads s.reads_now
-read_fault o s ended.Done h e = absurd (omega (arith, e))
-read_fault o s ended.Usage h e = absurd (omega (arith, e))
-read_fault o s ended.BadLine h e = absurd (omega (arith, e))
-read_fault o s ended.ReadFault h e = h.1
-read_fault o s ended.WriteFault h e = absurd (omega (arith, e))
-read_fault o s ended.Memory h e = absurd (omega (arith, e))
-read_fault o s ended.TooLong h e = absurd (omega (arith, e))
+read_fault o s e h k = (at_status o s e ended.ReadFault h k).1
 
 pub write_fault : (o : Option Options) (s : Streams) (e : Ended) → EndsAs o s e → status_of e ≡ WRITE_FAULT → Rose s.writes s.writes_now
-write_fault o s ended.Done h e = absurd (omega (arith, e))
-write_fault o s ended.Usage h e = absurd (omega (arith, e))
-write_fault o s ended.BadLine h e = absurd (omega (arith, e))
-write_fault o s ended.ReadFault h e = absurd (omega (arith, e))
-write_fault o s ended.WriteFault h e = h.1
-write_fault o s ended.Memory h e = absurd (omega (arith, e))
-write_fault o s ended.TooLong h e = absurd (omega (arith, e))
+write_fault o s e h k = (at_status o s e ended.WriteFault h k).1
 
 pub too_long : (o : Option Options) (s : Streams) (e : Ended) → EndsAs o s e → status_of e ≡ TOO_LONG → IsTooLong s.left s.left_now
-too_long o s ended.Done h e = absurd (omega (arith, e))
-too_long o s ended.Usage h e = absurd (omega (arith, e))
-too_long o s ended.BadLine h e = absurd (omega (arith, e))
-too_long o s ended.ReadFault h e = absurd (omega (arith, e))
-too_long o s ended.WriteFault h e = absurd (omega (arith, e))
-too_long o s ended.Memory h e = absurd (omega (arith, e))
-too_long o s ended.TooLong h e = h.1
+too_long o s e h k = (at_status o s e ended.TooLong h k).1
+
+pub read_whole : (o : Option Options) (s : Streams) (e : Ended) → EndsAs o s e → (status_of e ≡ DONE) ⊎ (status_of e ≡ BAD_LINE) → IsAtEnd s.left_now
+read_whole o s e h (inl k) = (at_status o s e ended.Done h k).2
+read_whole o s e h (inr k) = (at_status o s e ended.BadLine h k).2
 
 pub own : (o : Option Options) (s : Streams) (e : Ended) → EndsAs o s e → (status_of e ≡ DONE) ⊎ (status_of e ≡ BAD_LINE) → WroteWhole o s (status_of e)
-own o s ended.Done h e = h.1
-own o s ended.Usage h e = absurd (omega (arith, e))
-own o s ended.BadLine h e = h.1
-own o s ended.ReadFault h e = absurd (omega (arith, e))
-own o s ended.WriteFault h e = absurd (omega (arith, e))
-own o s ended.Memory h e = absurd (omega (arith, e))
-own o s ended.TooLong h e = absurd (omega (arith, e))
+own o s e h (inl k) = subst (WroteWhole o s) (sym k) (at_status o s e ended.Done h k).1
+own o s e h (inr k) = subst (WroteWhole o s) (sym k) (at_status o s e ended.BadLine h k).1
 
 pub nothing : (o : Option Options) (s : Streams) (e : Ended) → EndsAs o s e → (status_of e ≡ USAGE) ⊎ ((status_of e ≡ READ_FAULT) ⊎ (status_of e ≡ TOO_LONG)) → Keeps s.written s.written_now
-nothing o s ended.Done h e = absurd (omega (arith, e))
-nothing o s ended.Usage h e = h.1
-nothing o s ended.BadLine h e = absurd (omega (arith, e))
-nothing o s ended.ReadFault h e = h.2
-nothing o s ended.WriteFault h e = absurd (omega (arith, e))
-nothing o s ended.Memory h e = absurd (omega (arith, e))
-nothing o s ended.TooLong h e = h.2
+nothing o s e h (inl k) = (at_status o s e ended.Usage h k).1
+nothing o s e h (inr (inl k)) = (at_status o s e ended.ReadFault h k).2
+nothing o s e h (inr (inr k)) = (at_status o s e ended.TooLong h k).2
 
 pub front : (o : Option Options) (s : Streams) (e : Ended) → EndsAs o s e → (status_of e ≡ WRITE_FAULT) ⊎ (status_of e ≡ NO_MEMORY) → WrotePart o s
-front o s ended.Done h e = absurd (omega (arith, e))
-front o s ended.Usage h e = absurd (omega (arith, e))
-front o s ended.BadLine h e = absurd (omega (arith, e))
-front o s ended.ReadFault h e = absurd (omega (arith, e))
-front o s ended.WriteFault h e = h.3
-front o s ended.Memory h e = h.1
-front o s ended.TooLong h e = absurd (omega (arith, e))
+front o s e h (inl k) = (at_status o s e ended.WriteFault h k).3
+front o s e h (inr k) = (at_status o s e ended.Memory h k).1
 
 pub known : (e : Ended) → (status_of e ≡ DONE) ⊎ ((status_of e ≡ USAGE) ⊎ ((status_of e ≡ BAD_LINE) ⊎ ((status_of e ≡ READ_FAULT) ⊎ ((status_of e ≡ WRITE_FAULT) ⊎ ((status_of e ≡ NO_MEMORY) ⊎ (status_of e ≡ TOO_LONG))))))
 known ended.Done = inl refl

@@ -2,7 +2,7 @@
 use Rattle.std.proofs.Common.{◌≡◌, ℕ, ◌+◌, ◌≤◌, false, cond, ltb, List, [], ◌∷◌, ◌++◌, length, Option, Some, None, Result, Ok, Err, refl, sym, ap, ◌∙◌, subst, arith, append_assoc, append-nil}
 use Rattle.std.specs.Prelude.{OnOk, IfErr, IfSome, IfNone}
 use Rattle.std.specs.Io.KnownBytes.{Appends, Keeps}
-use Rattle.std.proofs.KnownBytes.{Appends-trans, Appends-nil}
+use Rattle.std.proofs.KnownBytes.{Appends-trans, Appends-nil, Consumes-whole}
 use Rattle.std.specs.Str.Lines.{lines}
 use Rattle.std.proofs.lemmas.Bool.Decides.{nat_tests}
 use Rattle.rm_base.specs.declared.limits.TheConstants.{SCRIPT_MOST}
@@ -145,22 +145,14 @@ input-ends options s input.Memory h kept =
     ] in
     (refl, turn s.left)
 
--- the bytes that were read to the end are those that were there
-whole-same : (left now : Option (List ℕ)) (bytes : List ℕ) (P : List ℕ → Type 0) → IsWholeInput left now bytes → P bytes → IfSome left P
-whole-same None now bytes P h p = tt
-whole-same (Some all) None bytes P h p = absurd h.read
-whole-same (Some all) (Some rest) bytes P h p =
-    let same : all ≡ bytes = h.read ∙ ap (λ l. bytes ++ l) h.at_end ∙ append-nil bytes in
-    subst P (sym same) p
-
 -- what a script leaves that was read whole
 pub lines-end_as : (options : Options) (s : Streams) (bytes : List ℕ) (r : LinesEnd) → IsWholeInput s.left s.left_now bytes
     → LinesEnded s.written s.written_now s.writes s.writes_now (script_with (Some options) bytes).text (script_with (Some options) bytes).status r → EndsAs (Some options) s (ended_as r)
-lines-end_as options s bytes end.Whole whole h = (refl, whole-same s.left s.left_now bytes _ whole h)
-lines-end_as options s bytes end.BadLine whole h = (refl, whole-same s.left s.left_now bytes _ whole h)
+lines-end_as options s bytes end.Whole whole h = (refl, Consumes-whole s.left s.left_now bytes _ whole.read whole.at_end h, whole.at_end)
+lines-end_as options s bytes end.BadLine whole h = (refl, Consumes-whole s.left s.left_now bytes _ whole.read whole.at_end h, whole.at_end)
 lines-end_as options s bytes end.WriteFault whole h =
-    (refl, h.1, whole-same s.left s.left_now bytes (λ b. length b ≤ SCRIPT_MOST) whole whole.fits, whole-same s.left s.left_now bytes _ whole h.0)
-lines-end_as options s bytes end.Memory whole h = (refl, whole-same s.left s.left_now bytes _ whole h)
+    (refl, h.1, Consumes-whole s.left s.left_now bytes (λ b. length b ≤ SCRIPT_MOST) whole.read whole.at_end whole.fits, Consumes-whole s.left s.left_now bytes _ whole.read whole.at_end h.0)
+lines-end_as options s bytes end.Memory whole h = (refl, Consumes-whole s.left s.left_now bytes _ whole.read whole.at_end h)
 
 -- what the lines of a script left, the script left
 pub bytes-end : (options : Options) (bytes : List ℕ) (s : ScriptState) (a b : Option (List ℕ)) (o n : ℕ) (r : LinesEnd) → length bytes ≤ SCRIPT_MOST

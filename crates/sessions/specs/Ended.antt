@@ -1,6 +1,6 @@
 -- How a script ends, and what its end leaves.
 use Rattle.std.specs.Prelude.{◌≡◌, ◌≤◌, ℕ, length, List, Option, None, IsSome, IfSome}
-use Rattle.std.specs.Io.KnownBytes.{Appends, Keeps}
+use Rattle.std.specs.Io.KnownBytes.{Appends, Keeps, IsAtEnd}
 use Rattle.rm_base.specs.declared.limits.TheConstants.{SCRIPT_MOST}
 use Rattle.rm_outside.specs.Faults.{Rose}
 use Rattle.sessions.specs.declared.ended.Ended.{Ended}
@@ -62,9 +62,9 @@ IsShort s = IfSome s.left (λ bytes. length bytes ≤ SCRIPT_MOST)
 
 -- what a script with these options, or with none, leaves where it ends so
 abbrev pub EndsAs : Option Options → Streams → Ended → Type 0
-EndsAs options s ended.Done = IsSome options × WroteWhole options s DONE
+EndsAs options s ended.Done = IsSome options × WroteWhole options s DONE × IsAtEnd s.left_now
 EndsAs options s ended.Usage = (options ≡ None) × Keeps s.written s.written_now
-EndsAs options s ended.BadLine = IsSome options × WroteWhole options s BAD_LINE
+EndsAs options s ended.BadLine = IsSome options × WroteWhole options s BAD_LINE × IsAtEnd s.left_now
 EndsAs options s ended.ReadFault = IsSome options × Rose s.reads s.reads_now × Keeps s.written s.written_now
 EndsAs options s ended.WriteFault = IsSome options × Rose s.writes s.writes_now × IsShort s × WrotePart options s
 EndsAs options s ended.Memory = IsSome options × WrotePart options s

@@ -1,5 +1,5 @@
 -- What a run has read and written.
-use Rattle.std.specs.Prelude.{◌≡◌, ℕ, ◌<◌, ◌≤◌, List, ◌++◌, length, Option}
+use Rattle.std.specs.Prelude.{◌≡◌, ℕ, ◌+◌, ◌≤◌, List, ◌++◌, length, Option}
 use Rattle.std.specs.Io.KnownBytes.{Appends, Consumes, IsAtEnd}
 use Rattle.rm_base.specs.declared.limits.TheConstants.{SCRIPT_MOST}
 use Rattle.rm_outside.specs.Faults.{Rose}
@@ -8,17 +8,23 @@ use Rattle.sessions.specs.declared.input.InputError.TheVariants as input
 use Rattle.rm_outside.specs.declared.outside.Outside.{Outside}
 use Rattle.rm_outside.specs.declared.outside.Outside.TheVariants as outside
 
+-- a front of the bytes that were left was read, of at most one byte more than a script may have
+pub record ReadFront (before now : Option (List ℕ)) : Type 0 where
+  pub bytes : List ℕ
+  pub read : Consumes before now bytes
+  pub within : length bytes ≤ SCRIPT_MOST + 1
+
 -- these bytes were read, to the end
 pub record IsWholeInput (before now : Option (List ℕ)) (bytes : List ℕ) : Type 0 where
   pub read : Consumes before now bytes
   pub at_end : IsAtEnd now
   pub fits : length bytes ≤ SCRIPT_MOST
 
--- more bytes than a script may have were read
+-- one byte more than a script may have was read, and no second one
 pub record IsTooLong (before now : Option (List ℕ)) : Type 0 where
   pub bytes : List ℕ
   pub read : Consumes before now bytes
-  pub long : SCRIPT_MOST < length bytes
+  pub long : length bytes ≡ SCRIPT_MOST + 1
 
 -- why the input could not be read
 abbrev pub ExplainsInput : Option (List ℕ) → Option (List ℕ) → ℕ → ℕ → InputError → Type 0

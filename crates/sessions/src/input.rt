@@ -1,7 +1,7 @@
 //! Reading a whole script.
 
 ghost use Rattle.std.specs.Prelude.{◌≤◌, IfOk, IfErr};
-ghost use Rattle.sessions.specs.Transfers.{IsWholeInput, ExplainsInput};
+ghost use Rattle.sessions.specs.Transfers.{ReadFront, IsWholeInput, ExplainsInput};
 
 use rm_base::limits::SCRIPT_MOST;
 use rm_outside::outside::Outside;
@@ -47,6 +47,7 @@ const PIECE: usize = 16_384;
 /// Reads a script to its end, or up to one byte more than a script may have.
 pub fn read_input<S: Source>(alloc: Global, input: &mut S) -> Result<Vec<u8>, InputError>
     ensures later { S.faults input.old ≤ S.faults input.new }
+    ensures reads { ReadFront (S.left input.old) (S.left input.new) }
     ensures whole { IfOk result (λ bytes. IsWholeInput (S.left input.old) (S.left input.new) bytes.items) }
     ensures err { IfErr result (ExplainsInput (S.left input.old) (S.left input.new) (S.faults input.old) (S.faults input.new)) }
 {

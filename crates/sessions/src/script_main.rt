@@ -1,12 +1,12 @@
 //! The command `script`, from its words and the bytes that it reads to the bytes that it writes.
 
 ghost use Rattle.std.specs.Prelude.{◌≡◌, ◌≢◌, ◌<◌, ◌≤◌, ◌↔◌, ◌⊎◌, None, Some, IfSome, length, map, string_bytes};
-ghost use Rattle.std.specs.Io.KnownBytes.{Appends, Keeps};
+ghost use Rattle.std.specs.Io.KnownBytes.{Appends, Keeps, IsAtEnd};
 ghost use Rattle.rm_outside.specs.Faults.{Rose};
 ghost use Rattle.sessions.specs.declared.options.Options.{Options};
 ghost use Rattle.sessions.specs.Options.{options_of};
 ghost use Rattle.sessions.specs.OptionsFacts.{AreWithin};
-ghost use Rattle.sessions.specs.Transfers.{IsTooLong, WroteFront};
+ghost use Rattle.sessions.specs.Transfers.{ReadFront, IsTooLong, WroteFront};
 ghost use Rattle.sessions.specs.Script.{script, script_with, IsOneHistory};
 ghost use Rattle.sessions.specs.Scripts.{LinesEnded};
 ghost use Rattle.sessions.specs.Ended.{Streams, EndsAs};
@@ -47,7 +47,8 @@ fn run_script<S: Source, O: Sink>(
     out: &mut O,
 ) -> Ended
     requires { AreWithin options }
-    ensures { let streams : Streams = record {
+    ensures reads { ReadFront (S.left input.old) (S.left input.new) }
+    ensures ends { let streams : Streams = record {
       left = S.left input.old;
       left_now = S.left input.new;
       reads = S.faults input.old;
@@ -72,7 +73,9 @@ fn run_words<S: Source, O: Sink>(
     input: &mut S,
     out: &mut O,
 ) -> Ended
-    ensures { let streams : Streams = record {
+    ensures reads { ReadFront (S.left input.old) (S.left input.new) }
+    ensures unread { options_of (map string_bytes words.now) ≡ None → input.new ≡ input.old }
+    ensures ends { let streams : Streams = record {
       left = S.left input.old;
       left_now = S.left input.new;
       reads = S.faults input.old;
@@ -121,6 +124,12 @@ pub fn script_main<S: Source, O: Sink, H: Shelf, P: Spool, K: Keeper>(
     ensures never_run { IfSome (S.left input.old) (λ bytes. SCRIPT_MOST < length bytes
         → (result.0 ≡ USAGE) ⊎ ((result.0 ≡ READ_FAULT) ⊎ ((result.0 ≡ NO_MEMORY) ⊎ (result.0 ≡ TOO_LONG)))) }
     ensures known { (result.0 ≡ DONE) ⊎ ((result.0 ≡ USAGE) ⊎ ((result.0 ≡ BAD_LINE) ⊎ ((result.0 ≡ READ_FAULT) ⊎ ((result.0 ≡ WRITE_FAULT) ⊎ ((result.0 ≡ NO_MEMORY) ⊎ (result.0 ≡ TOO_LONG)))))) }
+
+    // What was read: at most one byte more than a script may have, nothing where the words are none, and all of it where
+    // the script has run.
+    ensures reads { ReadFront (S.left input.old) (S.left input.new) }
+    ensures unread { result.0 ≡ USAGE → input.new ≡ input.old }
+    ensures read_whole { (result.0 ≡ DONE) ⊎ (result.0 ≡ BAD_LINE) → IsAtEnd (S.left input.new) }
 
     // What was written, whatever was counted.
     ensures own { (result.0 ≡ DONE) ⊎ (result.0 ≡ BAD_LINE)

@@ -234,7 +234,11 @@ fn lines_that_are_no_texts_are_bad(rt: HostRuntime) -> Result<(), Fail> {
     for script in &NO_TEXTS {
         let (status, out) = run(rt.alloc(), USUAL, script)?;
         assert_eq!(rt; status, 2, "the status of {script:?}");
-        assert_eq!(rt; out.contents(), b"bad line 1\n".as_slice(), "the text of {script:?}");
+        assert_eq!(rt;
+            out.contents(),
+            b"bad line 1\n".as_slice(),
+            "the text of {script:?}"
+        );
     }
     Ok(())
 }

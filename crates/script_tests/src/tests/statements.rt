@@ -50,14 +50,16 @@ refused 1 36
 refused 1 34
 refused 1 31
 ====
-# Key words are read in any case, and one ; may stand at the end.
+# Key words and the units of sizes are read in any case, those of spans are not. One ; may stand at the end.
 sql create Resource POOL Etl memorysize '1m' priority -1;
 sql CREATE\tRESOURCE POOL  x ; \r
-sql ALTER RESOURCE POOL ETL RUNTIMEPRIORITY low QUEUETIMEOUT '5 Seconds' RUNTIMECAP '1 HOUR' CASCADE TO X
+sql ALTER RESOURCE POOL ETL RUNTIMEPRIORITY low QUEUETIMEOUT '5 seconds' RUNTIMECAP '1 hour' CASCADE TO X
+sql ALTER RESOURCE POOL ETL QUEUETIMEOUT '5 Seconds'
 ---- 0
 ok
 ok
 ok
+refused 1 37
 ====
 # No parameter has the name, it was given before, or it is none that the host supports.
 sql CREATE RESOURCE POOL p FOO 1

@@ -21,7 +21,7 @@ returns-clause-exact g c =
       writes = g.O.Sink.faults c.args.out.now;
       writes_now = g.O.Sink.faults c.run_words.new.out;
     } in
-    λ r w m. subst (λ (n : ℕ). IsScript o s n) (sym c.status_of.ensures) (exact o s c.run_words.result c.run_words.ensures r w (λ k. m (c.status_of.ensures ∙ k)))
+    λ r w m. subst (λ (n : ℕ). IsScript o s n) (sym c.status_of.ensures) (exact o s c.run_words.result c.run_words.ensures.ends r w (λ k. m (c.status_of.ensures ∙ k)))
 
 pub returns-clause-one_history : goal.returns-clause-one_history
 returns-clause-one_history g c = always (g.S.Source.left c.args.input.now) _ (λ bytes options h. one_history (map string_bytes c.args.words.now) bytes options h)
@@ -40,4 +40,4 @@ returns-clause-never_run g c =
       writes_now = g.O.Sink.faults c.run_words.new.out;
     } in
     subst (λ (n : ℕ). IfSome s.left (λ bytes. SCRIPT_MOST < length bytes → (n ≡ USAGE) ⊎ ((n ≡ READ_FAULT) ⊎ ((n ≡ NO_MEMORY) ⊎ (n ≡ TOO_LONG)))))
-    (sym c.status_of.ensures) (never_run o s c.run_words.result c.run_words.ensures)
+    (sym c.status_of.ensures) (never_run o s c.run_words.result c.run_words.ensures.ends)
