@@ -61,9 +61,9 @@ force-step s seat at event h formed =
     let is = tried-is (found_at s at) seat event in
     outcome-turn (λ o. RaisesForce s o.state event) s seat event c (has_due s at || c.changed)
     (λ settles.
-      let t = settled c.state in
-      let beside = (beside-answered t c.answer).beside in
-      force-like s t (entered seat event t c.answer).state event (ap (λ (u : State). u.in_force) beside) (ap (λ (u : State). u.definitions) beside)
-      (force-tried s seat at event c is (unsettled-tried s seat at event c is formed h settles) h)
+    let t = settled c.state in
+    let beside = (beside-answered t c.answer).beside in
+    force-like s t (entered seat event t c.answer).state event (ap (λ (u : State). u.in_force) beside) (ap (λ (u : State). u.definitions) beside)
+    (force-tried s seat at event c is (unsettled-tried s seat at event c is formed h settles) h)
     )
     (λ still. force-least s s event (omega arith))

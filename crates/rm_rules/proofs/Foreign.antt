@@ -141,6 +141,7 @@ number-turn s seat session n event x y z for foreign number of_seat called found
 number-turn s seat session n event x y z for foreign number of_seat called found true same = absurd (both foreign) where
   is : eqb session n ≡ true
   is = ap (λ k. eqb k n) (sym (session_of-is s seat session z found).number) ∙ same
+
   both : IsForeign seat event x → ⊥
   both (inl other) = other (for ∙ ap (λ k. Some k) (eqb-true session n is ∙ sym number))
   both (inr other) =
@@ -220,7 +221,7 @@ foreign-step s seat at event h formed x called foreign =
     number-turn t seat session n event x found.session z for foreign refl found.left.seat found.called of (eqb z.number n) refl in
     outcome-turn (λ o. (y : Session) × (session_called o.state.sessions n ≡ Some y) × IsLeft x y) s seat event c (has_due s at || c.changed)
     (λ settles.
-      let left = tried-left t seat event c n x is (unsettled-tried s seat at event c is formed h settles).in_phase other found in
-      (left.session, left.called, left.left)
+    let left = tried-left t seat event c n x is (unsettled-tried s seat at event c is formed h settles).in_phase other found in
+    (left.session, left.called, left.left)
     )
     (λ still. let left = left-self n x s.sessions called in (left.session, left.called, left.left))

@@ -83,8 +83,8 @@ room-step s seat at event =
     let c = attempted (found_at s at) seat event in
     outcome-turn (λ o. o.state.room ≡ s.room) s seat event c (has_due s at || c.changed)
     (λ settles.
-      ap (λ (u : State). u.room) (beside-answered (settled c.state) c.answer).beside ∙ (rest-settled c.state).room
-      ∙ (rest-tried (found_at s at) seat event c (tried-is (found_at s at) seat event)).room ∙ (rest-due (moved_to s at)).room
+    ap (λ (u : State). u.room) (beside-answered (settled c.state) c.answer).beside ∙ (rest-settled c.state).room
+    ∙ (rest-tried (found_at s at) seat event c (tried-is (found_at s at) seat event)).room ∙ (rest-due (moved_to s at)).room
     )
     (λ still. refl)
 

@@ -125,8 +125,8 @@ enters-turn s seat at event r c h settles =
     let clock : (settled t).clock ≡ max s.clock at = (rest-settled t).clock ∙ (rest-due (moved_to s at)).clock in (
       h.refused,
       ap (λ (d : Change). (entered seat event (settled d.state) d.answer).state) h.is
-      ∙ ap (λ k. recorded (settled t) (noted seat k event (reply.Refused r))) clock
-      ∙ sym (ap (λ b. cond b (recorded (settled t) (noted seat (max s.clock at) event (reply.Refused r))) s) due),
+          ∙ ap (λ k. recorded (settled t) (noted seat k event (reply.Refused r))) clock
+          ∙ sym (ap (λ b. cond b (recorded (settled t) (noted seat (max s.clock at) event (reply.Refused r))) s) due),
     )
 
 still-turn : (s : State) (seat at : ℕ) (event : Event) (r : Refusal) (c : Change) → IsRefused (found_at s at) seat event r c → (has_due s at || c.changed) ≡ false
