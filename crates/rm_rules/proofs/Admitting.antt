@@ -1,8 +1,7 @@
 -- What an admission keeps.
-use Rattle.std.proofs.Common.{◌≡◌, ℕ, ◌+◌, ◌≤◌, Bool, true, false, cond, eqb, List, [], ◌∷◌, ◌++◌, Some, None, refl, sym, ap, ◌∙◌, subst, arith, count_by}
-use Rattle.std.specs.List.{find, list_all}
+use Rattle.std.proofs.Common.{◌≡◌, ℕ, ◌≤◌, Bool, true, false, eqb, List, [], ◌∷◌, ◌++◌, Some, None, refl, sym, ap, ◌∙◌, subst, arith, count_by}
+use Rattle.std.specs.List.{find}
 use Rattle.std.proofs.lemmas.Bool.{eq-eqb, false≢true}
-use Rattle.rm_base.specs.declared.definitions.Definitions.{Definitions}
 use Rattle.rm_rules.specs.declared.state.Phase.{Phase}
 use Rattle.rm_rules.specs.declared.state.Phase.TheVariants as phase
 use Rattle.rm_rules.specs.declared.state.Session.{Session}
@@ -10,11 +9,10 @@ use Rattle.rm_rules.specs.declared.state.Waiter.{Waiter}
 use Rattle.rm_rules.specs.declared.state.Runner.{Runner}
 use Rattle.rm_rules.specs.State.{State, phase_of, without_waiter, is_idle, is_waiting, is_running, is_ended}
 use Rattle.rm_rules.specs.Admission.{started, admitted, first_entitled}
-use Rattle.rm_rules.specs.Sound.{has_pool}
 use Rattle.rm_rules.specs.Owed.{owed}
-use Rattle.rm_rules.specs.Healthy.{AreInPhase, AreThere, AreNumbered, IsHealthyWith, RoomOf, one_if}
-use Rattle.rm_rules.proofs.Taken.{found_counted, counted_among, found_single, all_among}
-use Rattle.rm_rules.proofs.Changed.{turns-stay, turns-leave, turns-come}
+use Rattle.rm_rules.specs.Healthy.{AreInPhase, AreNumbered, IsHealthyWith, RoomOf, one_if}
+use Rattle.rm_rules.proofs.Taken.{found_counted, counted_among, found_single}
+use Rattle.rm_rules.proofs.Changed.{turns-leave, turns-come}
 use Rattle.rm_rules.proofs.Phases.{one_if-most, there_if_live, opened-with}
 use Rattle.rm_rules.proofs.Queue.{IsAmong, first_entitled_fits}
 use Rattle.rm_rules.proofs.There.{pools-admitted}

@@ -1,8 +1,7 @@
 -- A query that is submitted while no query runs or waits, and is not refused for its size, is admitted when that settles.
-use Rattle.std.proofs.Common.{◌≡◌, ℕ, zero, suc, Bool, true, false, cond, eqb, List, [], ◌∷◌, ◌++◌, Some, None, Option, length, refl, sym, ap, ◌∙◌}
-use Rattle.std.specs.List.{find, list_all}
+use Rattle.std.proofs.Common.{◌≡◌, ℕ, zero, Bool, true, false, cond, List, [], ◌∷◌, ◌++◌, Some, None, Option, length, refl, ap, ◌∙◌}
+use Rattle.std.specs.List.{find}
 use Rattle.std.proofs.lemmas.Bool.{eq-eqb}
-use Rattle.rm_base.specs.declared.definitions.Definitions.{Definitions}
 use Rattle.rm_base.specs.declared.name.Name.{Name}
 use Rattle.rm_base.specs.declared.refusal.Refusal.{Refusal}
 use Rattle.rm_rules.specs.declared.state.Phase.TheVariants as phase
@@ -11,14 +10,14 @@ use Rattle.rm_rules.specs.declared.state.Waiter.{Waiter}
 use Rattle.rm_rules.specs.declared.state.Runner.{Runner}
 use Rattle.rm_rules.specs.Definitions.{pool_row}
 use Rattle.rm_rules.specs.Refusals.{refused_if}
-use Rattle.rm_rules.specs.Ask.{ask, is_too_large, too_large}
+use Rattle.rm_rules.specs.Ask.{is_too_large, too_large}
 use Rattle.rm_rules.specs.State.{State, with_phase, without_waiter}
 use Rattle.rm_rules.specs.Holdings.{holdings_of}
 use Rattle.rm_rules.specs.Repeated.{repeated}
 use Rattle.rm_rules.specs.Admission.{judged_for, first_in_queue, first_entitled, started, admitted, admission}
 use Rattle.rm_rules.specs.Shuffle.{shuffled_state}
 use Rattle.rm_rules.specs.Deadlines.{first_nowait, timed_out}
-use Rattle.rm_rules.specs.Settle.{first_too_large, ended_too_large, without_too_large, without_nowait, settled}
+use Rattle.rm_rules.specs.Settle.{first_too_large, ended_too_large, without_nowait, settled}
 use Rattle.rm_rules.specs.Change.{size_refusal, new_waiter, submitted}
 use Rattle.rm_rules.specs.Sound.{IsSound, has_pool}
 use Rattle.rm_rules.specs.Healthy.{AreSized, AreThere, AreHeld}

@@ -1,5 +1,5 @@
 -- What a waiting query that ends in the queue leaves.
-use Rattle.std.proofs.Common.{◌≡◌, ℕ, ◌+◌, ◌≤◌, Bool, true, false, cond, eqb, List, [], ◌∷◌, length, Some, None, refl, sym, ap, ◌∙◌, arith}
+use Rattle.std.proofs.Common.{◌≡◌, ℕ, ◌+◌, ◌≤◌, true, false, cond, List, [], ◌∷◌, length, Some, None, refl, sym, ap, ◌∙◌, arith}
 use Rattle.rm_base.specs.declared.entry.EndCounts.{EndCounts}
 use Rattle.rm_base.specs.declared.name.Name.{Name}
 use Rattle.rm_base.specs.declared.reply.End.{End}
@@ -11,7 +11,7 @@ use Rattle.rm_rules.specs.declared.state.Runner.{Runner}
 use Rattle.rm_rules.specs.State.{State, phase_of, with_one_end, with_end, without_waiter}
 use Rattle.rm_rules.specs.Deadlines.{ended_as}
 use Rattle.rm_rules.specs.Owed.{owed}
-use Rattle.rm_rules.specs.Healthy.{AreSized, AreThere, AreInPhase, AreNumbered, RoomOf, IsHealthyWith, IsUnsettledWith, one_if}
+use Rattle.rm_rules.specs.Healthy.{AreSized, AreInPhase, AreNumbered, RoomOf, IsHealthyWith, IsUnsettledWith, one_if}
 use Rattle.rm_rules.proofs.Changed.{turns-stay, turns-leave}
 use Rattle.rm_rules.proofs.Phases.{there_if_live, opened-with}
 use Rattle.rm_rules.proofs.Queue.{IsAmong}

@@ -2,45 +2,38 @@
 use Rattle.std.proofs.Common.{◌≡◌, ℕ, ◌+◌, ◌≤◌, Bool, true, false, ◌||◌, cond, eqb, List, [], ◌∷◌, ◌++◌, Some, None, Option, inl, inr, ◌⊎◌, refl, sym, ap, ◌∙◌, subst, arith, append_assoc, append-nil, count_by}
 use Rattle.std.specs.Prelude.{◌≢◌, option_map, option_and_then}
 use Rattle.std.specs.List.{find}
-use Rattle.std.proofs.lemmas.List.Sums.{sum_by-cons}
 use Rattle.std.proofs.lemmas.Bool.{eqb-true, eq-eqb, false≢true}
-use Rattle.rm_base.specs.declared.definitions.Definitions.{Definitions}
 use Rattle.rm_base.specs.declared.event.Event.{Event}
 use Rattle.rm_base.specs.declared.event.Event.TheVariants.{Define, Open, SetPool, Submit, Poll, Finish}
-use Rattle.rm_base.specs.declared.reply.End.{End}
 use Rattle.rm_base.specs.declared.refusal.Refusal.{Refusal}
 use Rattle.rm_base.specs.declared.reply.Reply.{Reply}
 use Rattle.rm_base.specs.declared.reply.Reply.TheVariants as reply
 use Rattle.rm_rules.specs.declared.answer.Answer.{Answer}
-use Rattle.rm_rules.specs.declared.state.Session.{Session}
 use Rattle.rm_rules.specs.declared.state.Waiter.{Waiter}
 use Rattle.rm_rules.specs.declared.state.Runner.{Runner}
 use Rattle.rm_rules.specs.Definitions.{pool_row}
 use Rattle.rm_rules.specs.Ask.{cap, ask}
-use Rattle.rm_rules.specs.State.{State, without, without_waiter, without_runner, session_pool, phase_of, is_running}
+use Rattle.rm_rules.specs.State.{State, without, without_runner, session_pool, phase_of, is_running}
 use Rattle.rm_rules.specs.Holdings.{holdings}
 use Rattle.rm_rules.specs.Accounting.{used}
 use Rattle.rm_rules.specs.Admission.{started, admitted, first_entitled}
-use Rattle.rm_rules.specs.Shuffle.{shuffled_state}
-use Rattle.rm_rules.specs.Deadlines.{ended_as}
 use Rattle.rm_rules.specs.Settle.{settled}
 use Rattle.rm_rules.specs.Change.{Change, runner_of, grant_of, new_waiter, defined, opened, submitted, collected, finished}
-use Rattle.rm_rules.specs.Answers.{told, reply_of, answered}
-use Rattle.rm_rules.specs.Step.{Outcome, entered, moved_to, has_due, found_at, attempted, step}
-use Rattle.rm_rules.specs.Replay.{IsFormed}
-use Rattle.rm_rules.specs.Healthy.{AreInPhase, AreNumbered, IsHealthy}
+use Rattle.rm_rules.specs.Answers.{told, reply_of}
+use Rattle.rm_rules.specs.Step.{entered, moved_to, has_due, found_at, attempted, step}
+use Rattle.rm_rules.specs.Healthy.{AreNumbered, IsHealthy}
 use Rattle.rm_rules.specs.Grants.{runner_called, waiter_called, grant_called, query_of, released, freed_by, HasWaited, IsAdmitted, KeepsGrants}
 use Rattle.rm_rules.proofs.Taken.{found_passes, found_counted, found_single, counted_among, sum_without, or_right_false}
 use Rattle.rm_rules.proofs.Found.{found-front, found-push, found-kept, found-split, found-same, none-counted}
 use Rattle.rm_rules.proofs.Queue.{IsAmong, found_among}
 use Rattle.rm_rules.proofs.SettledLaws.{none_without}
-use Rattle.rm_rules.proofs.Settling.{entitled-among, due-keeps, settled-keeps, rest-settled, rest-due}
+use Rattle.rm_rules.proofs.Settling.{entitled-among, due-keeps, settled-keeps, rest-settled}
 use Rattle.rm_rules.proofs.Within.{found-behind, within-settled}
 use Rattle.rm_rules.proofs.Changing.{IsTried, stays, changes, IsQuiet, refuses, repeats, tells, IsChange, defines, opens, chooses, submits, collects, finishes, choice_made, session_of-is, session_of-found, tried-is}
 use Rattle.rm_rules.proofs.Phases.{one_if-most, phase_of-found}
 use Rattle.rm_rules.proofs.Keeping.{runner_found}
 use Rattle.rm_rules.proofs.Answering.{beside-answered}
-use Rattle.rm_rules.proofs.Stepping.{moved-facts, found-facts, unsettled-tried, outcome-turn}
+use Rattle.rm_rules.proofs.Stepping.{found-facts, outcome-turn}
 
 -- what is left of a list is of the list
 further : (w x : Waiter) (ws : List Waiter) → IsAmong w ws → IsAmong w (x ∷ ws)

@@ -1,12 +1,12 @@
 -- What each event's change keeps, before the state settles.
-use Rattle.std.proofs.Common.{◌≡◌, ℕ, ◌+◌, ◌-◌, ◌*◌, ◌≤◌, ◌<◌, Bool, true, false, not, cond, eqb, leb, ltb, List, [], ◌∷◌, ◌++◌, length, Some, None, Option, Ok, refl, sym, ap, ◌∙◌, subst, arith, sum_by, count_by}
+use Rattle.std.proofs.Common.{◌≡◌, ℕ, ◌+◌, ◌-◌, ◌*◌, ◌≤◌, ◌<◌, Bool, true, false, not, cond, eqb, leb, ltb, List, [], ◌∷◌, ◌++◌, length, Some, None, Ok, refl, sym, ap, ◌∙◌, arith, sum_by, count_by}
 use Rattle.std.specs.Option.{is_some}
-use Rattle.std.specs.List.{find, list_all}
+use Rattle.std.specs.List.{list_all}
 use Rattle.std.proofs.lemmas.List.Sums.{sum_by-cons, sum_by_push}
 use Rattle.std.proofs.lemmas.List.{length_push}
 use Rattle.std.proofs.lemmas.Bool.{eqb-true, false≢true}
 use Rattle.std.proofs.lemmas.Bool.Decides.{nat_tests}
-use Rattle.rm_base.specs.declared.limits.TheConstants.{SESSIONS_MOST, ENTRIES_A_QUERY, ENTRIES_A_SESSION, ENTRIES_BEYOND}
+use Rattle.rm_base.specs.declared.limits.TheConstants.{SESSIONS_MOST, ENTRIES_A_SESSION, ENTRIES_BEYOND}
 use Rattle.rm_base.specs.declared.definitions.Definitions.{Definitions}
 use Rattle.rm_base.specs.declared.event.Event.{Event}
 use Rattle.rm_base.specs.declared.event.Event.TheVariants.{Define}
@@ -33,7 +33,7 @@ use Rattle.rm_rules.proofs.Known.{session_pool-known, chosen-choice}
 use Rattle.rm_rules.proofs.AcceptanceLaws.{all_wider, accepted-sound, accepted-counted}
 use Rattle.rm_rules.proofs.Phases.{phase_of-found, count-with, phase_of-choice, count-choice, length-choice, opened-choice, opened-with, phase_of-push, count-push, there_if_live, live-counts, live-most, length-with}
 use Rattle.rm_rules.proofs.Moving.{Goes, in_phase-goes, there-goes, numbered-goes, owed-goes, room-owed}
-use Rattle.rm_rules.proofs.Covering.{held-finished, IsDefined, held-defined}
+use Rattle.rm_rules.proofs.Covering.{held-finished, held-defined}
 use Rattle.rm_rules.proofs.Changing.{IsChange, defines, opens, chooses, submits, collects, finishes, MayOpen, MayChoose, MaySubmit, choice_made, session_of-found}
 
 -- a sum of what is at most so much each

@@ -1,5 +1,5 @@
 -- What settling and deadlines keep.
-use Rattle.std.proofs.Common.{◌≡◌, ℕ, zero, suc, ◌+◌, ◌≤◌, List, [], ◌∷◌, ◌++◌, length, Some, None, Option, refl, sym, ap, ◌∙◌, subst, arith, max, unwrap_or}
+use Rattle.std.proofs.Common.{◌≡◌, ℕ, zero, suc, ◌+◌, ◌≤◌, List, ◌∷◌, length, Some, None, Option, refl, sym, ap, ◌∙◌, subst, arith, max, unwrap_or}
 use Rattle.std.proofs.lemmas.List.{length-append}
 use Rattle.rm_base.specs.declared.reply.End.{End}
 use Rattle.rm_base.specs.declared.reply.End.TheVariants.{TimedOut}

@@ -1,12 +1,11 @@
 -- What is admitted is within its pool's cap, and stays so while others are admitted after it.
-use Rattle.std.proofs.Common.{◌≡◌, ℕ, ◌+◌, ◌≤◌, Bool, true, false, ◌&&◌, ◌||◌, cond, leb, eqb, List, [], ◌∷◌, ◌++◌, Some, None, Option, refl, sym, ap, ◌∙◌, subst, arith, append_assoc, append-nil}
+use Rattle.std.proofs.Common.{◌≡◌, ℕ, ◌+◌, ◌≤◌, Bool, true, false, cond, leb, eqb, List, [], ◌∷◌, ◌++◌, Some, None, refl, sym, ap, ◌∙◌, subst, arith, append_assoc, append-nil}
 use Rattle.std.specs.Prelude.{nat_le}
 use Rattle.std.specs.List.{find, list_all}
 use Rattle.std.proofs.lemmas.Bool.{leb-true, le-leb}
 use Rattle.std.proofs.lemmas.List.{map_push}
 use Rattle.rm_base.specs.declared.definitions.Definitions.{Definitions}
 use Rattle.rm_base.specs.declared.name.Name.{Name}
-use Rattle.rm_base.specs.declared.reply.End.{End}
 use Rattle.rm_base.specs.Name.{same_name}
 use Rattle.rm_base.proofs.Names.{same_name-refl, same_name-eq}
 use Rattle.rm_rules.specs.declared.state.Holding.{Holding}
@@ -17,8 +16,8 @@ use Rattle.rm_rules.specs.Budget.{threshold}
 use Rattle.rm_rules.specs.Ask.{cap}
 use Rattle.rm_rules.specs.State.{State}
 use Rattle.rm_rules.specs.Holdings.{Holdings, holding, holdings, holdings_of}
-use Rattle.rm_rules.specs.Accounting.{held_in, used, running_in, lent, free, need}
-use Rattle.rm_rules.specs.Fit.{has_place, poolfit, can_lend}
+use Rattle.rm_rules.specs.Accounting.{held_in, used, running_in}
+use Rattle.rm_rules.specs.Fit.{has_place, poolfit}
 use Rattle.rm_rules.specs.Admission.{ask_of, judged_for, first_entitled, started, admitted}
 use Rattle.rm_rules.specs.Settle.{settled}
 use Rattle.rm_rules.specs.Grants.{runner_called}

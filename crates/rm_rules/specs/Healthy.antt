@@ -1,5 +1,5 @@
 -- What every state of the machine keeps. Each fact is over what it reads, so what an event leaves alone stays as it was.
-use Rattle.std.specs.Prelude.{◌≡◌, ℕ, ◌+◌, ◌<◌, ◌≤◌, nat_le, Bool, true, ◌==◌, List, length, sum_by, count_by, if◌then◌else◌}
+use Rattle.std.specs.Prelude.{◌≡◌, ℕ, ◌+◌, ◌<◌, ◌≤◌, nat_le, Bool, true, ◌==◌, List, length, count_by, if◌then◌else◌}
 use Rattle.std.specs.List.{list_all}
 use Rattle.rm_base.specs.declared.definitions.Definitions.{Definitions}
 use Rattle.rm_base.specs.declared.entry.EndCounts.{EndCounts}
