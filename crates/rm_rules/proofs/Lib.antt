@@ -9,6 +9,7 @@ pub mod Sizes
 pub mod AcceptanceLaws
 pub mod Bytes
 pub mod Queue
+pub mod There
 pub mod Conserved
 pub mod Shuffling
 pub mod Defining
@@ -31,7 +32,6 @@ pub mod Refusing
 pub mod Loud
 pub mod Rests
 pub mod Idle
-pub mod There
 pub mod SettledLaws
 pub mod Within
 pub mod Alone
