@@ -2,7 +2,6 @@
 use Rattle.std.proofs.Common.{◌≡◌, ℕ, ◌+◌, ◌≤◌, Bool, true, false, ◌||◌, cond, eqb, List, [], ◌∷◌, ◌++◌, Some, None, Option, inl, inr, ◌⊎◌, refl, sym, ap, ◌∙◌, subst, arith, append_assoc, append-nil, count_by}
 use Rattle.std.specs.Prelude.{◌≢◌, option_map, option_and_then}
 use Rattle.std.specs.List.{find}
-use Rattle.std.proofs.lemmas.List.Sums.{sum_by-cons}
 use Rattle.std.proofs.lemmas.Bool.{eqb-true, eq-eqb, false≢true}
 use Rattle.rm_base.specs.declared.event.Event.{Event}
 use Rattle.rm_base.specs.declared.event.Event.TheVariants.{Define, Open, SetPool, Submit, Poll, Finish}
@@ -25,6 +24,7 @@ use Rattle.rm_rules.specs.Step.{entered, moved_to, has_due, found_at, attempted,
 use Rattle.rm_rules.specs.Healthy.{AreNumbered, IsHealthy}
 use Rattle.rm_rules.specs.Grants.{runner_called, waiter_called, grant_called, query_of, released, freed_by, still_running, WasSubmitted, HasWaited, IsAdmitted, KeepsGrants}
 use Rattle.rm_rules.proofs.Taken.{found_passes, found_counted, found_single, counted_among, sum_without, or_right_false}
+use Rattle.rm_rules.proofs.Found.{found-front, found-push, found-kept, found-split, found-same, none-counted}
 use Rattle.rm_rules.proofs.Queue.{IsAmong, found_among}
 use Rattle.rm_rules.proofs.SettledLaws.{none_without}
 use Rattle.rm_rules.proofs.Settling.{entitled-among, due-keeps, settled-keeps, rest-settled}
@@ -34,41 +34,6 @@ use Rattle.rm_rules.proofs.Phases.{one_if-most, phase_of-found}
 use Rattle.rm_rules.proofs.Keeping.{runner_found}
 use Rattle.rm_rules.proofs.Answering.{beside-answered}
 use Rattle.rm_rules.proofs.Stepping.{found-facts, outcome-turn}
-
--- what is found in front is found, and what is found is in front or the last
-front-turn : {A : Type 0} (test : A → Bool) (x y : A) (xs ys : List A) (b : Bool) → cond b (Some x) (find test xs) ≡ Some y
-    → (find test xs ≡ Some y → find test (xs ++ ys) ≡ Some y) → cond b (Some x) (find test (xs ++ ys)) ≡ Some y
-front-turn test x y xs ys true found rest = found
-front-turn test x y xs ys false found rest = rest found
-
-found-front : {A : Type 0} (test : A → Bool) (y : A) (xs ys : List A) → find test xs ≡ Some y → find test (xs ++ ys) ≡ Some y
-found-front test y [] ys found = let none : None ≡ Some y = found in absurd (cc)
-found-front test y (x ∷ xs) ys found = front-turn test x y xs ys (test x) found (found-front test y xs ys)
-
-last-turn : {A : Type 0} (test : A → Bool) (x y z : A) (xs : List A) (b : Bool) → cond b (Some x) (find test (xs ++ z ∷ [])) ≡ Some y
-    → (find test (xs ++ z ∷ []) ≡ Some y → (find test xs ≡ Some y) ⊎ (y ≡ z)) → (cond b (Some x) (find test xs) ≡ Some y) ⊎ (y ≡ z)
-last-turn test x y z xs true found rest = inl found
-last-turn test x y z xs false found rest = rest found
-
-one-turn : {A : Type 0} (y z : A) (b : Bool) → cond b (Some z) None ≡ Some y → y ≡ z
-one-turn y z true found = cc
-one-turn y z false found = absurd (cc)
-
-found-push : {A : Type 0} (test : A → Bool) (y z : A) (xs : List A) → find test (xs ++ z ∷ []) ≡ Some y → (find test xs ≡ Some y) ⊎ (y ≡ z)
-found-push test y z [] found = inr (one-turn y z (test z) found)
-found-push test y z (x ∷ xs) found = last-turn test x y z xs (test x) found (found-push test y z xs)
-
--- what another test does not take is found as before
-kept-turn : {A : Type 0} (test other : A → Bool) (x y : A) (xs : List A) (b c : Bool) → other x ≡ b → test x ≡ c → cond c (Some x) (find test xs) ≡ Some y → other y ≡ false
-    → (find test xs ≡ Some y → find test (without other xs) ≡ Some y) → find test (cond b xs (x ∷ without other xs)) ≡ Some y
-kept-turn test other x y xs true true e f found apart rest = let same : x ≡ y = cc in absurd (false≢true (sym apart ∙ ap other (sym same) ∙ e))
-kept-turn test other x y xs true false e f found apart rest = found
-kept-turn test other x y xs false true e f found apart rest = ap (λ b. cond b (Some x) (find test (without other xs))) f ∙ found
-kept-turn test other x y xs false false e f found apart rest = ap (λ b. cond b (Some x) (find test (without other xs))) f ∙ rest found
-
-found-kept : {A : Type 0} (test other : A → Bool) (y : A) (xs : List A) → find test xs ≡ Some y → other y ≡ false → find test (without other xs) ≡ Some y
-found-kept test other y [] found apart = let none : None ≡ Some y = found in absurd (cc)
-found-kept test other y (x ∷ xs) found apart = kept-turn test other x y xs (other x) (test x) refl refl found apart (λ more. found-kept test other y xs more apart)
 
 -- what is left of a list is of the list
 further : (w x : Waiter) (ws : List Waiter) → IsAmong w ws → IsAmong w (x ∷ ws)
@@ -201,38 +166,6 @@ turned-submitted s c event y running waiting next = record {
   turn w (inl before) = inl before
   turn w (inr new) = inr (subst (WasSubmitted s event) (sym new) next)
 
--- where what is found stands
-split-turn : {A : Type 0} (test : A → Bool) (x y : A) (xs : List A) (b : Bool) → cond b (Some x) (find test xs) ≡ Some y
-    → (find test xs ≡ Some y → (front : List A) × ((rest : List A) × (xs ≡ front ++ y ∷ rest))) → (front : List A) × ((rest : List A) × (x ∷ xs ≡ front ++ y ∷ rest))
-split-turn test x y xs true found more = let same : x ≡ y = cc in ([], (xs, ap (λ z. z ∷ xs) same))
-split-turn test x y xs false found more = let there = more found in (x ∷ there.0, (there.1.0, ap (λ l. x ∷ l) there.1.1))
-
-found-split : {A : Type 0} (test : A → Bool) (y : A) (xs : List A) → find test xs ≡ Some y → (front : List A) × ((rest : List A) × (xs ≡ front ++ y ∷ rest))
-found-split test y [] found = let none : None ≡ Some y = found in absurd (cc)
-found-split test y (x ∷ xs) found = split-turn test x y xs (test x) found (found-split test y xs)
-
--- so where one alone passes a test, two that pass it are one
-pub found-same : {A : Type 0} (test other : A → Bool) (y z : A) (xs : List A) → find test xs ≡ Some y → other y ≡ true → count_by other xs ≤ 1 → find other xs ≡ Some z → y ≡ z
-found-same {A} test other y z xs found passes few there =
-    let split = found-split test y xs found in
-    found_single other split.0 split.1.0 y z passes
-    (subst (λ (l : List A). count_by other l ≤ 1) split.1.1 few) (subst (λ (l : List A). find other l ≡ Some z) split.1.1 there)
-
--- where none passes, none is found
-none-turn : {A : Type 0} (test : A → Bool) (x : A) (xs : List A) (b : Bool) → test x ≡ b → count_by test (x ∷ xs) ≡ 0 → (count_by test xs ≡ 0 → find test xs ≡ None)
-    → cond b (Some x) (find test xs) ≡ None
-none-turn test x xs true e none rest = absurd (omega (arith, none, sum_by-cons (λ z. cond (test z) 1 0) x xs, ap {B = ℕ} (λ b. cond b 1 0) e))
-none-turn test x xs false e none rest = rest (omega (arith, none, sum_by-cons (λ z. cond (test z) 1 0) x xs, ap {B = ℕ} (λ b. cond b 1 0) e))
-
-none-counted : {A : Type 0} (test : A → Bool) (xs : List A) → count_by test xs ≡ 0 → find test xs ≡ None
-none-counted test [] none = refl
-none-counted test (x ∷ xs) none = none-turn test x xs (test x) refl none (none-counted test xs)
-
-some-counted : {A : Type 0} (test : A → Bool) (y : A) (xs : List A) → find test xs ≡ Some y → 1 ≤ count_by test xs
-some-counted {A} test y xs found =
-    let split = found-split test y xs found in
-    subst (λ (l : List A). 1 ≤ count_by test l) (sym split.1.1) (counted_among test split.0 split.1.0 y (found_passes test y xs found))
-
 -- a running query is what its number finds
 runner-number : (s : State) (n : ℕ) (r : Runner) → runner_of s.running n ≡ Some r → AreNumbered s.last_query s.waiting s.running → runner_called s.running r.query ≡ Some r
 runner-number s n r found numbered =
@@ -306,16 +239,16 @@ refused-rest s (Submit session floor) r = refl
 refused-rest s (Poll session) r = refl
 refused-rest s (Finish session) r = refl
 
-refused-none : (s : State) (event : Event) (r : Refusal) → (let o : Option ℕ = None in freed_by s event (reply.Refused r) ≡ o)
-refused-none s (Define statement) r = refl
-refused-none s (Open user) r = refl
-refused-none s (SetPool session pool) r = refl
-refused-none s (Submit session floor) r = refl
-refused-none s (Poll session) r = refl
-refused-none s (Finish session) r = refl
+freed-refused : (s : State) (event : Event) (r : Refusal) → (let o : Option ℕ = None in freed_by s event (reply.Refused r) ≡ o)
+freed-refused s (Define statement) r = refl
+freed-refused s (Open user) r = refl
+freed-refused s (SetPool session pool) r = refl
+freed-refused s (Submit session floor) r = refl
+freed-refused s (Poll session) r = refl
+freed-refused s (Finish session) r = refl
 
 frees-quiet : (s u : State) (seat : ℕ) (event : Event) (answer : Answer) → IsQuiet s seat event answer → Frees s event (reply_of u answer) s
-frees-quiet s u seat _ _ (refuses event r is) = frees-none s event (reply.Refused r) s (refused-none s event r) (λ n grant is gives. absurd (cc)) (refused-rest s event r) (turned-same s s event refl refl)
+frees-quiet s u seat _ _ (refuses event r is) = frees-none s event (reply.Refused r) s (freed-refused s event r) (λ n grant is gives. absurd (cc)) (refused-rest s event r) (turned-same s s event refl refl)
 frees-quiet s u seat _ _ (repeats session pool x found same) = frees-none s (SetPool session pool) reply.Set s refl (λ n grant is gives. absurd (cc)) refl (turned-same s s (SetPool session pool) refl refl)
 frees-quiet s u seat _ _ (tells session x found active) = frees-none s (Poll session) (told u x.number) s refl (λ n grant is gives. absurd (cc)) refl (turned-same s s (Poll session) refl refl)
 
@@ -492,7 +425,7 @@ keeps-same s event answer none no_finish rest = record {
 }
 
 keeps-quiet : (s t u : State) (seat : ℕ) (event : Event) (answer : Answer) → IsQuiet t seat event answer → KeepsGrants s s event (reply_of u answer)
-keeps-quiet s t u seat _ _ (refuses event r is) = keeps-same s event (reply.Refused r) (refused-none s event r) (λ n grant is gives. absurd (cc)) (refused-rest s event r)
+keeps-quiet s t u seat _ _ (refuses event r is) = keeps-same s event (reply.Refused r) (freed-refused s event r) (λ n grant is gives. absurd (cc)) (refused-rest s event r)
 keeps-quiet s t u seat _ _ (repeats session pool x found same) = keeps-same s (SetPool session pool) reply.Set refl (λ n grant is gives. absurd (cc)) refl
 keeps-quiet s t u seat _ _ (tells session x found active) = keeps-same s (Poll session) (told u x.number) refl (λ n grant is gives. absurd (cc)) refl
 
