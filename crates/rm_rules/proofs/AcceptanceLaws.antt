@@ -29,18 +29,18 @@ use Rattle.rm_rules.proofs.AcceptanceChains.{target_there, longest, each_ends}
 use Rattle.rm_rules.proofs.AcceptanceRanges.{changed-in_range}
 
 -- what is not refused
-not-refused : (b : Bool) (r : Refusal) → refused_if b r ≡ None → b ≡ false
+pub not-refused : (b : Bool) (r : Refusal) → refused_if b r ≡ None → b ≡ false
 not-refused true r h = absurd (cc)
 not-refused false r h = refl
 
-first-none : (o : Option Refusal) (more : List (Option Refusal)) → first_refusal (o ∷ more) ≡ None → (o ≡ None) × (first_refusal more ≡ None)
+pub first-none : (o : Option Refusal) (more : List (Option Refusal)) → first_refusal (o ∷ more) ≡ None → (o ≡ None) × (first_refusal more ≡ None)
 first-none None more h = (refl, h)
 first-none (Some r) more h = absurd (cc)
 
-not_below : (a b : ℕ) → nat_lt a b ≡ false → b ≤ a
+pub not_below : (a b : ℕ) → nat_lt a b ≡ false → b ≤ a
 not_below a b h = grind (arith, nat_tests)
 
-not_above : (a b : ℕ) → nat_le a b ≡ false → b < a
+pub not_above : (a b : ℕ) → nat_le a b ≡ false → b < a
 not_above a b h = grind (arith, nat_tests)
 
 le-true : (a b : ℕ) → a ≤ b → nat_le a b ≡ true

@@ -1,15 +1,13 @@
 -- A query that is submitted while no query runs or waits, and is not refused for its size, is admitted when that settles.
-use Rattle.std.proofs.Common.{◌≡◌, ℕ, zero, Bool, true, false, cond, List, [], ◌∷◌, ◌++◌, Some, None, Option, length, refl, ap, ◌∙◌}
+use Rattle.std.proofs.Common.{◌≡◌, ℕ, zero, true, cond, List, [], ◌∷◌, ◌++◌, Some, None, Option, length, refl, ap, ◌∙◌}
 use Rattle.std.specs.List.{find}
 use Rattle.std.proofs.lemmas.Bool.{eq-eqb}
 use Rattle.rm_base.specs.declared.name.Name.{Name}
-use Rattle.rm_base.specs.declared.refusal.Refusal.{Refusal}
 use Rattle.rm_rules.specs.declared.state.Phase.TheVariants as phase
 use Rattle.rm_rules.specs.declared.state.Session.{Session}
 use Rattle.rm_rules.specs.declared.state.Waiter.{Waiter}
 use Rattle.rm_rules.specs.declared.state.Runner.{Runner}
 use Rattle.rm_rules.specs.Definitions.{pool_row}
-use Rattle.rm_rules.specs.Refusals.{refused_if}
 use Rattle.rm_rules.specs.Ask.{is_too_large, too_large}
 use Rattle.rm_rules.specs.State.{State, with_phase, without_waiter}
 use Rattle.rm_rules.specs.Holdings.{holdings_of}
@@ -23,6 +21,7 @@ use Rattle.rm_rules.specs.Sound.{IsSound, has_pool}
 use Rattle.rm_rules.specs.Healthy.{AreSized, AreThere, AreHeld}
 use Rattle.rm_rules.proofs.Taken.{all_push}
 use Rattle.rm_rules.proofs.Known.{chosen-with}
+use Rattle.rm_rules.proofs.AcceptanceLaws.{not-refused}
 use Rattle.rm_rules.proofs.Covering.{sized-shuffled, covered-shuffled}
 use Rattle.rm_rules.proofs.Rests.{shuffled-rests}
 use Rattle.rm_rules.proofs.Idle.{fits-idle, first_among-here}
@@ -43,11 +42,6 @@ alone-settled t w alone fits picked =
     ∙ ap (λ (l : List Waiter). admission (repeated first_nowait timed_out (length l) v)) nobody
     ∙ ap (λ (l : List Waiter). repeated first_entitled admitted (length l) v) nobody
 
--- a query that is not refused for its size is not too large
-not_refused : (b : Bool) (r : Refusal) → refused_if b r ≡ None → b ≡ false
-not_refused true r e = absurd (cc)
-not_refused false r e = refl
-
 -- where it alone waits, it is the first in queue order
 first-alone : (s : State) (w : Waiter) → s.waiting ≡ w ∷ [] → (judged_for s.definitions (holdings_of s) w).fits ≡ true → first_entitled s ≡ Some w
 first-alone s w alone fits =
@@ -65,7 +59,7 @@ admitted-alone s x pool floor sound sized there held known idle nobody small =
     let alone : t.waiting ≡ w ∷ [] = ap (λ (l : List Waiter). l ++ w ∷ []) nobody in
     let fits : first_too_large t ≡ None =
     ap (find (λ (y : Waiter). is_too_large d (pool_row d y.pool) y.user y.floor)) alone
-    ∙ ap (λ b. cond b (Some w) None) (not_refused (is_too_large d (pool_row d pool) x.user floor) (too_large d (pool_row d pool) x.user floor) small) in
+    ∙ ap (λ b. cond b (Some w) None) (not-refused (is_too_large d (pool_row d pool) x.user floor) (too_large d (pool_row d pool) x.user floor) small) in
     let all : AreThere d t.sessions t.waiting t.running = record {
       runs = there.runs;
       waits = all_push (λ y. has_pool d y.pool) s.waiting w there.waits known;

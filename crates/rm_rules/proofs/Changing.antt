@@ -1,9 +1,8 @@
 -- What each event changes, and what it keeps.
-use Rattle.std.proofs.Common.{◌≡◌, ℕ, ◌+◌, ◌<◌, Bool, true, false, not, cond, eqb, leb, List, [], ◌∷◌, length, Some, None, Option, Result, Ok, Err, refl, sym, ap, ◌∙◌, subst, arith}
+use Rattle.std.proofs.Common.{◌≡◌, ℕ, ◌+◌, ◌<◌, Bool, true, false, not, cond, eqb, leb, [], ◌∷◌, length, Some, None, Option, Result, Ok, Err, refl, sym, ap, ◌∙◌, subst}
 use Rattle.std.specs.Prelude.{option_and_then}
 use Rattle.std.specs.Option.{is_some}
 use Rattle.std.proofs.lemmas.Bool.{eqb-true, false≢true}
-use Rattle.std.proofs.lemmas.Bool.Decides.{nat_tests}
 use Rattle.rm_base.specs.declared.limits.TheConstants.{SESSIONS_MOST}
 use Rattle.rm_base.specs.declared.definitions.Definitions.{Definitions}
 use Rattle.rm_base.specs.declared.event.Event.{Event}
@@ -20,7 +19,6 @@ use Rattle.rm_rules.specs.declared.state.Phase.{Phase}
 use Rattle.rm_rules.specs.declared.state.Phase.TheVariants as phase
 use Rattle.rm_rules.specs.declared.state.Session.{Session}
 use Rattle.rm_rules.specs.Definitions.{pool_row, user_called, usage}
-use Rattle.rm_rules.specs.Refusals.{refused_if, first_refusal}
 use Rattle.rm_rules.specs.Acceptance.{accepted, pool_missing}
 use Rattle.rm_rules.specs.Ask.{is_too_large}
 use Rattle.rm_rules.specs.State.{State, session_called, session_of, if_opened_by, session_pool, with_choice, is_idle, is_active, is_running, live_queries}
@@ -28,20 +26,7 @@ use Rattle.rm_rules.specs.Change.{Change, quiet, changing, with_session, user_mi
 use Rattle.rm_rules.specs.Answers.{is_defining}
 use Rattle.rm_rules.specs.Sound.{has_pool}
 use Rattle.rm_rules.proofs.Taken.{found_passes, not_true}
-use Rattle.rm_rules.proofs.AcceptanceLaws.{unless-ok}
-
--- what is not refused passes each test
-pub refused-none : (b : Bool) (r : Refusal) → (let o : Option Refusal = None in refused_if b r ≡ o) → b ≡ false
-refused-none true r h = absurd (cc)
-refused-none false r h = refl
-
-pub first-none : (o : Option Refusal) (more : List (Option Refusal)) → (let n : Option Refusal = None in first_refusal (o ∷ more) ≡ n)
-    → (let n : Option Refusal = None in (o ≡ n) × (first_refusal more ≡ n))
-first-none None more h = (refl, h)
-first-none (Some r) more h = absurd (cc)
-
-not_above : (a b : ℕ) → leb a b ≡ false → b < a
-not_above a b h = grind (arith, nat_tests)
+use Rattle.rm_rules.proofs.AcceptanceLaws.{not-refused, first-none, not_above, unless-ok}
 
 -- the session that an event speaks of
 of_seat-turn : (seat : ℕ) (x : Session) (o : Option Session) → option_and_then (if_opened_by seat) o ≡ Some x → (o ≡ Some x) × (x.seat ≡ seat)
@@ -91,9 +76,9 @@ may_open s user h =
     let second = first-none (sessions_full s) (full ∷ []) first.1 in
     let third = first-none full [] second.1 in
     record {
-      user_there = not_true _ (refused-none (not (is_some (user_called s.definitions.users user))) _ first.0);
-      few = not_above _ _ (refused-none (leb SESSIONS_MOST (length s.sessions)) _ second.0);
-      not_full = refused-none (is_journal_full s (live_queries s.sessions) (length s.sessions + 1)) _ third.0;
+      user_there = not_true _ (not-refused (not (is_some (user_called s.definitions.users user))) _ first.0);
+      few = not_above _ _ (not-refused (leb SESSIONS_MOST (length s.sessions)) _ second.0);
+      not_full = not-refused (is_journal_full s (live_queries s.sessions) (length s.sessions + 1)) _ third.0;
     }
 
 -- SetPool is not refused
@@ -109,9 +94,9 @@ may_choose s x pool h =
     let second = first-none (usage_missing s.definitions x.user pool) (full ∷ []) first.1 in
     let third = first-none full [] second.1 in
     record {
-      pool_there = not_true _ (refused-none (not (has_pool s.definitions pool)) _ first.0);
-      may_use = not_true _ (refused-none (not (usage s.definitions x.user pool)) _ second.0);
-      not_full = refused-none (is_journal_full s (live_queries s.sessions) (length s.sessions)) _ third.0;
+      pool_there = not_true _ (not-refused (not (has_pool s.definitions pool)) _ first.0);
+      may_use = not_true _ (not-refused (not (usage s.definitions x.user pool)) _ second.0);
+      not_full = not-refused (is_journal_full s (live_queries s.sessions) (length s.sessions)) _ third.0;
     }
 
 -- Submit is not refused
@@ -133,11 +118,11 @@ may_submit s x pool floor h =
     let fourth = first-none size (full ∷ []) third.1 in
     let fifth = first-none full [] fourth.1 in
     record {
-      idle = not_true _ (refused-none (not (is_idle x.phase)) _ first.0);
-      user_there = not_true _ (refused-none (not (is_some (user_called d.users x.user))) _ second.0);
-      may_use = not_true _ (refused-none (not (usage d x.user pool)) _ third.0);
-      small = refused-none (is_too_large d (pool_row d pool) x.user floor) _ fourth.0;
-      not_full = refused-none (is_journal_full s (live_queries s.sessions + 1) (length s.sessions)) _ fifth.0;
+      idle = not_true _ (not-refused (not (is_idle x.phase)) _ first.0);
+      user_there = not_true _ (not-refused (not (is_some (user_called d.users x.user))) _ second.0);
+      may_use = not_true _ (not-refused (not (usage d x.user pool)) _ third.0);
+      small = not-refused (is_too_large d (pool_row d pool) x.user floor) _ fourth.0;
+      not_full = not-refused (is_journal_full s (live_queries s.sessions + 1) (length s.sessions)) _ fifth.0;
     }
 
 -- what the choice of another pool changes
@@ -216,13 +201,13 @@ ok-tried s seat (Poll session) c ok =
     let found = with_session-ok s seat session (polling s) c ok in
     let x = found.0 in
     let made = unless-ok (not_live x) (polled s x x.phase) c found.2 in
-    poll-turn s seat session x x.phase c found.1 refl (refused-none (is_idle x.phase) _ made.0) made.1
+    poll-turn s seat session x x.phase c found.1 refl (not-refused (is_idle x.phase) _ made.0) made.1
 ok-tried s seat (Finish session) c ok =
     let found = with_session-ok s seat session (finishing s) c ok in
     let x = found.0 in
     let made = unless-ok (not_running x) (finished s x) c found.2 in
     made-change s seat (Finish session) (finished s x) c made.1 refl
-    (finishes session x found.1 (not_true _ (refused-none (not (is_running x.phase)) _ made.0)))
+    (finishes session x found.1 (not_true _ (not-refused (not (is_running x.phase)) _ made.0)))
 
 tried-turn : (s : State) (seat : ℕ) (event : Event) (r : Result Change Refusal) → change s seat event ≡ r → IsTried s seat event (tried s r)
 tried-turn s seat event (Err refusal) is = stays (Says (reply.Refused refusal)) (refuses event refusal is)

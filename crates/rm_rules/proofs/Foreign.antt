@@ -20,7 +20,7 @@ use Rattle.rm_rules.specs.Replay.{IsFormed}
 use Rattle.rm_rules.specs.Sessions.{session_in, IsForeign, Settles, Stays, Runs, Ends, IsLeft, LeavesForeign}
 use Rattle.rm_rules.specs.Healthy.{AreInPhase, IsHealthy}
 use Rattle.rm_rules.proofs.Changed.{other-changed}
-use Rattle.rm_rules.proofs.Phases.{is_called, phased, choosing_pool, called-with_same, called-with_other, phase_of-found}
+use Rattle.rm_rules.proofs.Phases.{has_number, phased, choosing_pool, called-with_same, called-with_other, phase_of-found}
 use Rattle.rm_rules.proofs.Queue.{IsAmong}
 use Rattle.rm_rules.proofs.Admitting.{session-waits, in_phase-admitted}
 use Rattle.rm_rules.proofs.Ending.{in_phase-ended}
@@ -165,7 +165,7 @@ left-changed s seat _ _ n x (opens user may) other h = record { session = h.sess
 left-changed s seat _ _ n x (chooses session pool z found may differs) other h = record {
   session = h.session;
   called =
-      other-changed (is_called z.number) (is_called n) (choosing_pool pool) s.sessions
+      other-changed (has_number z.number) (has_number n) (choosing_pool pool) s.sessions
       (λ y is. ap (λ k. eqb k n) (eqb-true y.number z.number is) ∙ other session z refl found) (λ y. refl)
       ∙ h.called;
   left = h.left;

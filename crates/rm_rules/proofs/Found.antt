@@ -6,6 +6,16 @@ use Rattle.std.proofs.lemmas.List.Sums.{sum_by-cons}
 use Rattle.rm_rules.specs.State.{without}
 use Rattle.rm_rules.proofs.Taken.{found_single}
 
+-- what is not found in front is found behind
+behind-turn : {A : Type 0} (test : A → Bool) (x y : A) (xs ys : List A) (b : Bool) → cond b (Some x) (find test xs) ≡ None → cond b (Some x) (find test (xs ++ ys)) ≡ Some y
+    → (find test xs ≡ None → find test (xs ++ ys) ≡ Some y → find test ys ≡ Some y) → find test ys ≡ Some y
+behind-turn test x y xs ys true none found rest = absurd (cc)
+behind-turn test x y xs ys false none found rest = rest none found
+
+pub found-behind : {A : Type 0} (test : A → Bool) (y : A) (xs ys : List A) → find test xs ≡ None → find test (xs ++ ys) ≡ Some y → find test ys ≡ Some y
+found-behind test y [] ys none found = found
+found-behind test y (x ∷ xs) ys none found = behind-turn test x y xs ys (test x) none found (found-behind test y xs ys)
+
 -- what is found in front is found, and what is found is in front or the last
 front-turn : {A : Type 0} (test : A → Bool) (x y : A) (xs ys : List A) (b : Bool) → cond b (Some x) (find test xs) ≡ Some y
     → (find test xs ≡ Some y → find test (xs ++ ys) ≡ Some y) → cond b (Some x) (find test (xs ++ ys)) ≡ Some y

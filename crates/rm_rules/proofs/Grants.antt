@@ -24,11 +24,11 @@ use Rattle.rm_rules.specs.Step.{entered, moved_to, has_due, found_at, attempted,
 use Rattle.rm_rules.specs.Healthy.{AreNumbered, IsHealthy}
 use Rattle.rm_rules.specs.Grants.{runner_called, waiter_called, grant_called, query_of, released, freed_by, still_running, WasSubmitted, HasWaited, IsAdmitted, KeepsGrants}
 use Rattle.rm_rules.proofs.Taken.{found_passes, found_counted, found_single, counted_among, sum_without, or_right_false}
-use Rattle.rm_rules.proofs.Found.{found-front, found-push, found-kept, found-split, found-same, none-counted}
-use Rattle.rm_rules.proofs.Queue.{IsAmong, found_among}
+use Rattle.rm_rules.proofs.Found.{found-behind, found-front, found-push, found-kept, found-split, found-same, none-counted}
+use Rattle.rm_rules.proofs.Queue.{IsAmong, further, found_among}
 use Rattle.rm_rules.proofs.SettledLaws.{none_without}
 use Rattle.rm_rules.proofs.Settling.{entitled-among, due-keeps, settled-keeps, rest-settled}
-use Rattle.rm_rules.proofs.Within.{found-behind, within-settled}
+use Rattle.rm_rules.proofs.Within.{within-settled}
 use Rattle.rm_rules.proofs.Changing.{IsTried, stays, changes, IsQuiet, refuses, repeats, tells, IsChange, defines, opens, chooses, submits, collects, finishes, choice_made, session_of-is, session_of-found, tried-is}
 use Rattle.rm_rules.proofs.Phases.{one_if-most, phase_of-found}
 use Rattle.rm_rules.proofs.Keeping.{runner_found}
@@ -36,9 +36,6 @@ use Rattle.rm_rules.proofs.Answering.{beside-answered}
 use Rattle.rm_rules.proofs.Stepping.{found-facts, outcome-turn}
 
 -- what is left of a list is of the list
-further : (w x : Waiter) (ws : List Waiter) → IsAmong w ws → IsAmong w (x ∷ ws)
-further w x ws among = record { front = x ∷ among.front; rest = among.rest; split = ap (λ l. x ∷ l) among.split }
-
 first-or : (w x : Waiter) (ws front rest : List Waiter) → x ∷ ws ≡ front ++ w ∷ rest → (x ≡ w) ⊎ IsAmong w ws
 first-or w x ws [] rest split = let same : x ≡ w = cc in inl same
 first-or w x ws (y ∷ front) rest split = let tail : ws ≡ front ++ w ∷ rest = cc in inr (record { front = front; rest = rest; split = tail })

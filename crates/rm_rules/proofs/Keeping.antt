@@ -1,5 +1,5 @@
 -- What each event's change keeps, before the state settles.
-use Rattle.std.proofs.Common.{◌≡◌, ℕ, ◌+◌, ◌-◌, ◌*◌, ◌≤◌, ◌<◌, Bool, true, false, not, cond, eqb, leb, ltb, List, [], ◌∷◌, ◌++◌, length, Some, None, Ok, refl, sym, ap, ◌∙◌, arith, sum_by, count_by}
+use Rattle.std.proofs.Common.{◌≡◌, ℕ, ◌+◌, ◌-◌, ◌*◌, ◌≤◌, ◌<◌, Bool, true, false, not, cond, eqb, leb, List, [], ◌∷◌, ◌++◌, length, Some, None, Ok, refl, sym, ap, ◌∙◌, arith, sum_by, count_by}
 use Rattle.std.specs.Option.{is_some}
 use Rattle.std.specs.List.{list_all}
 use Rattle.std.proofs.lemmas.List.Sums.{sum_by-cons, sum_by_push}
@@ -30,7 +30,7 @@ use Rattle.rm_rules.specs.Healthy.{AreInPhase, AreThere, AreOpened, AreNumbered,
 use Rattle.rm_rules.proofs.Taken.{and_left, and_right, all_found, all_push, found_counted}
 use Rattle.rm_rules.proofs.Changed.{turns-stay, turns-leave, turns-come}
 use Rattle.rm_rules.proofs.Known.{session_pool-known, chosen-choice}
-use Rattle.rm_rules.proofs.AcceptanceLaws.{all_wider, accepted-sound, accepted-counted}
+use Rattle.rm_rules.proofs.AcceptanceLaws.{not_below, all_wider, accepted-sound, accepted-counted}
 use Rattle.rm_rules.proofs.Phases.{phase_of-found, count-with, phase_of-choice, count-choice, length-choice, opened-choice, opened-with, phase_of-push, count-push, there_if_live, live-counts, live-most, length-with}
 use Rattle.rm_rules.proofs.Moving.{Goes, in_phase-goes, there-goes, numbered-goes, owed-goes, room-owed}
 use Rattle.rm_rules.proofs.Covering.{held-finished, held-defined}
@@ -61,9 +61,6 @@ pub owed-within : (sessions : List Session) (waiting : List Waiter) (running : L
     → owed sessions waiting running ≤ share * live_queries sessions + ENTRIES_A_SESSION * length sessions
 owed-within sessions waiting running h =
     omega (arith, h.active, live-counts sessions, sum-within entries_waiting share waiting waiting-within, sum-within entries_running share running running-within)
-
-not_below : (a b : ℕ) → ltb a b ≡ false → b ≤ a
-not_below a b h = grind (arith, nat_tests)
 
 -- so where this refusal does not come there is room for an entry more
 room-left : (s : State) (live sessions owes : ℕ) → is_journal_full s live sessions ≡ false → owes ≤ share * live + ENTRIES_A_SESSION * sessions → live ≤ SESSIONS_MOST

@@ -29,7 +29,7 @@ use Rattle.rm_rules.specs.Healthy.{AreInPhase, AreNumbered, IsHealthy}
 use Rattle.rm_rules.proofs.Taken.{sum_without, count_without, counted_among}
 use Rattle.rm_rules.proofs.AcceptanceLaws.{accepted-counted}
 use Rattle.rm_rules.proofs.Changed.{found-changed}
-use Rattle.rm_rules.proofs.Phases.{is_called, phased, choosing_pool, called-with_same}
+use Rattle.rm_rules.proofs.Phases.{has_number, phased, choosing_pool, called-with_same}
 use Rattle.rm_rules.proofs.Queue.{IsAmong}
 use Rattle.rm_rules.proofs.Admitting.{waiter_found}
 use Rattle.rm_rules.proofs.Settling.{repeated-keeps, due-among, settled-keeps, rest-settled, rest-due}
@@ -84,7 +84,7 @@ loud-change s seat clock _ _ formed (chooses session pool x found may other) in_
     let c = (choice_made s x pool).state in
     let there = session_of-found s seat session x found in
     let now : session_called c.sessions x.number ≡ Some (choosing_pool pool x) =
-    found-changed (is_called x.number) (choosing_pool pool) s.sessions (λ y. refl) ∙ ap (option_map (choosing_pool pool)) there in
+    found-changed (has_number x.number) (choosing_pool pool) s.sessions (λ y. refl) ∙ ap (option_map (choosing_pool pool)) there in
     let left = (left-settled x.number (choosing_pool pool x) c in_phase (left-self x.number (choosing_pool pool x) c.sessions now)).left in
     let is = session-differs s (settled c) x.number clock x left.session there left.called same in
     false≢true (sym other ∙ chosen-already x pool (ap (λ (z : Session). z.pool) (sym is) ∙ left.left.pool))

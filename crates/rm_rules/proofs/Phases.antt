@@ -13,8 +13,8 @@ use Rattle.rm_rules.specs.Healthy.{AreOpened, one_if}
 use Rattle.rm_rules.proofs.Changed.{sum-changed, sum-kept, length-changed, all-changed, found-changed, other-changed}
 
 -- the session of this number, and that session in another phase or with another choice
-abbrev pub is_called : ℕ → Session → Bool
-is_called n x = eqb x.number n
+abbrev pub has_number : ℕ → Session → Bool
+has_number n x = eqb x.number n
 
 abbrev pub phased : Phase → Session → Session
 phased p x = record x { phase = p }
@@ -32,10 +32,10 @@ differ k n m ne e = ap (λ z. eqb z m) (eqb-true k n e) ∙ ne
 
 -- the session is found in its other phase, and every other one as it was
 pub called-with_same : (n : ℕ) (p : Phase) (xs : List Session) → session_called (with_phase n p xs) n ≡ option_map (phased p) (session_called xs n)
-called-with_same n p xs = found-changed (is_called n) (phased p) xs (λ y. refl)
+called-with_same n p xs = found-changed (has_number n) (phased p) xs (λ y. refl)
 
 pub called-with_other : (n m : ℕ) (p : Phase) (xs : List Session) → eqb n m ≡ false → session_called (with_phase n p xs) m ≡ session_called xs m
-called-with_other n m p xs ne = other-changed (is_called n) (is_called m) (phased p) xs (λ y is. differ y.number n m ne is) (λ y. refl)
+called-with_other n m p xs ne = other-changed (has_number n) (has_number m) (phased p) xs (λ y is. differ y.number n m ne is) (λ y. refl)
 
 -- the phase of what is found
 abbrev pub phase_in : Option Session → Phase
@@ -63,20 +63,20 @@ count-turn : (test : Phase → Bool) (n : ℕ) (p : Phase) (xs : List Session) (
     → count_by (λ z. test z.phase) (with_phase n p xs) + one_if (test (phase_of xs n)) ≡ count_by (λ z. test z.phase) xs + one_if (test p)
 count-turn test n p xs None found there = absurd (false≢true there)
 count-turn test n p xs (Some x) found there =
-    omega (arith, sum-changed (λ (z : Session). cond (test z.phase) 1 0) (is_called n) (phased p) x xs found, ap (λ q. one_if (test q)) (phase_of-found n xs x found))
+    omega (arith, sum-changed (λ (z : Session). cond (test z.phase) 1 0) (has_number n) (phased p) x xs found, ap (λ q. one_if (test q)) (phase_of-found n xs x found))
 
 pub count-with : (test : Phase → Bool) (n : ℕ) (p : Phase) (xs : List Session) → is_some (session_called xs n) ≡ true
     → count_by (λ z. test z.phase) (with_phase n p xs) + one_if (test (phase_of xs n)) ≡ count_by (λ z. test z.phase) xs + one_if (test p)
 count-with test n p xs there = count-turn test n p xs (session_called xs n) refl there
 
 pub length-with : (n : ℕ) (p : Phase) (xs : List Session) → length (with_phase n p xs) ≡ length xs
-length-with n p xs = length-changed (is_called n) (phased p) xs
+length-with n p xs = length-changed (has_number n) (phased p) xs
 
 -- the numbers stay
 pub opened-with : (last n : ℕ) (p : Phase) (xs : List Session) → AreOpened last xs → AreOpened last (with_phase n p xs)
 opened-with last n p xs h = record {
-  once = λ m. omega (arith, h.once m, sum-kept (λ (z : Session). cond (eqb z.number m) 1 0) (is_called n) (phased p) xs (λ z. refl));
-  given = all-changed (λ z. leb z.number last) (is_called n) (phased p) xs (λ z given. given) h.given;
+  once = λ m. omega (arith, h.once m, sum-kept (λ (z : Session). cond (eqb z.number m) 1 0) (has_number n) (phased p) xs (λ z. refl));
+  given = all-changed (λ z. leb z.number last) (has_number n) (phased p) xs (λ z given. given) h.given;
   few = omega (arith, h.few, length-with n p xs);
 }
 
@@ -88,22 +88,22 @@ chosen-in pool (Some x) = refl
 choice-turn : (n m : ℕ) (pool : Name) (xs : List Session) (b : Bool) → eqb n m ≡ b → phase_of (with_choice n pool xs) m ≡ phase_of xs m
 choice-turn n m pool xs true e =
     subst (λ k. phase_of (with_choice n pool xs) k ≡ phase_of xs k) (eqb-true n m e)
-    (ap phase_in (found-changed (is_called n) (choosing_pool pool) xs (λ y. refl)) ∙ chosen-in pool (session_called xs n))
-choice-turn n m pool xs false e = ap phase_in (other-changed (is_called n) (is_called m) (choosing_pool pool) xs (λ y is. differ y.number n m e is) (λ y. refl))
+    (ap phase_in (found-changed (has_number n) (choosing_pool pool) xs (λ y. refl)) ∙ chosen-in pool (session_called xs n))
+choice-turn n m pool xs false e = ap phase_in (other-changed (has_number n) (has_number m) (choosing_pool pool) xs (λ y is. differ y.number n m e is) (λ y. refl))
 
 pub phase_of-choice : (n m : ℕ) (pool : Name) (xs : List Session) → phase_of (with_choice n pool xs) m ≡ phase_of xs m
 phase_of-choice n m pool xs = choice-turn n m pool xs (eqb n m) refl
 
 pub count-choice : (test : Phase → Bool) (n : ℕ) (pool : Name) (xs : List Session) → count_by (λ z. test z.phase) (with_choice n pool xs) ≡ count_by (λ z. test z.phase) xs
-count-choice test n pool xs = sum-kept (λ (z : Session). cond (test z.phase) 1 0) (is_called n) (choosing_pool pool) xs (λ z. refl)
+count-choice test n pool xs = sum-kept (λ (z : Session). cond (test z.phase) 1 0) (has_number n) (choosing_pool pool) xs (λ z. refl)
 
 pub length-choice : (n : ℕ) (pool : Name) (xs : List Session) → length (with_choice n pool xs) ≡ length xs
-length-choice n pool xs = length-changed (is_called n) (choosing_pool pool) xs
+length-choice n pool xs = length-changed (has_number n) (choosing_pool pool) xs
 
 pub opened-choice : (last n : ℕ) (pool : Name) (xs : List Session) → AreOpened last xs → AreOpened last (with_choice n pool xs)
 opened-choice last n pool xs h = record {
-  once = λ m. omega (arith, h.once m, sum-kept (λ (z : Session). cond (eqb z.number m) 1 0) (is_called n) (choosing_pool pool) xs (λ z. refl));
-  given = all-changed (λ z. leb z.number last) (is_called n) (choosing_pool pool) xs (λ z given. given) h.given;
+  once = λ m. omega (arith, h.once m, sum-kept (λ (z : Session). cond (eqb z.number m) 1 0) (has_number n) (choosing_pool pool) xs (λ z. refl));
+  given = all-changed (λ z. leb z.number last) (has_number n) (choosing_pool pool) xs (λ z given. given) h.given;
   few = omega (arith, h.few, length-choice n pool xs);
 }
 

@@ -22,7 +22,7 @@ pub record IsAmong (w : Waiter) (ws : List Waiter) : Type 0 where
   pub rest : List Waiter
   pub split : ws ≡ front ++ w ∷ rest
 
-further : (w x : Waiter) (ws : List Waiter) → IsAmong w ws → IsAmong w (x ∷ ws)
+pub further : (w x : Waiter) (ws : List Waiter) → IsAmong w ws → IsAmong w (x ∷ ws)
 further w x ws among = record { front = x ∷ among.front; rest = among.rest; split = ap (λ l. x ∷ l) among.split }
 
 first-turn : (d : Definitions) (k : Holdings) (blocked : Bool) (h w : Waiter) (hs : List Waiter) (b : Bool) → is_entitled blocked (judged_for d k h) ≡ b

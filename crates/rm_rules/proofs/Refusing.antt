@@ -16,7 +16,7 @@ use Rattle.rm_rules.specs.declared.state.Waiter.{Waiter}
 use Rattle.rm_rules.specs.declared.state.Runner.{Runner}
 use Rattle.rm_rules.specs.State.{State, session_called, phase_of, with_phase, is_idle, is_active, is_waiting, is_running}
 use Rattle.rm_rules.specs.Settle.{settled}
-use Rattle.rm_rules.specs.Change.{Change, quiet, change, runner_of}
+use Rattle.rm_rules.specs.Change.{Change, quiet, change, tried, runner_of}
 use Rattle.rm_rules.specs.Answers.{told, told_in_phase, told_running, told_waiting, waiter_of, reply_of}
 use Rattle.rm_rules.specs.Step.{Outcome, noted, recorded, entered, quietly, moved_to, has_due, found_at, attempted, step, left_refused}
 use Rattle.rm_rules.specs.Replay.{IsFormed}
@@ -145,3 +145,13 @@ refused-step s seat at event r h formed =
     outcome-turn (λ o. o.reply ≡ reply.Refused r → LeftRefused s seat at event r o) s seat event c (has_due s at || c.changed)
     (λ settles e. enters-turn s seat at event r c (refused-settled t seat event r c is (unsettled-tried s seat at event c is formed h settles).in_phase e) settles)
     (λ still e. still-turn s seat at event r c (refused-still t seat event r c is (found-facts s at h).in_phase (or_right_false (has_due s at) c.changed still) e) still)
+
+-- and each refused event is answered so
+pub replies-refused : (s : State) (seat at : ℕ) (event : Event) (r : Refusal) → change (found_at s at) seat event ≡ Err r → (step s seat at event).reply ≡ reply.Refused r
+replies-refused s seat at event r is =
+    let t = found_at s at in
+    let c = attempted t seat event in
+    let tries : c ≡ quiet t (Says (reply.Refused r)) = ap (tried t) is in
+    outcome-turn (λ o. o.reply ≡ reply.Refused r) s seat event c (has_due s at || c.changed)
+    (λ settles. ap (λ (d : Change). reply_of (settled d.state) d.answer) tries)
+    (λ still. ap (λ (d : Change). reply_of d.state d.answer) tries)

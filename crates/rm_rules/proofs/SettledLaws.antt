@@ -26,7 +26,7 @@ use Rattle.rm_rules.proofs.Queue.{without-fewer}
 use Rattle.rm_rules.proofs.Covering.{covered-admitted, sized-shuffled, covered-shuffled, sized-start, covered-start}
 use Rattle.rm_rules.proofs.There.{pools-ended, pools-admitted}
 use Rattle.rm_rules.proofs.Ending.{sized-ended}
-use Rattle.rm_rules.proofs.Settling.{repeated-keeps, deadline_end, too_large-among, nowait-among, entitled-among}
+use Rattle.rm_rules.proofs.Settling.{admission-keeps, repeated-keeps, deadline_end, too_large-among, nowait-among, entitled-among}
 use Rattle.rm_rules.proofs.Rests.{AllRest, Rests, rests-shuffled, shuffled-rests, rests-admitted}
 use Rattle.rm_rules.proofs.Idle.{AreFound, found-user, idle-none}
 
@@ -150,10 +150,10 @@ quiet-settled s h =
     let v = without_nowait u in
     let fits : IsFitting t = repeated-keeps first_too_large ended_too_large IsFitting (λ a w _ p. fitting-ended (too_large_end a w) a w p) (length s.waiting) s h in
     let none : first_too_large t ≡ None = repeated-done first_too_large ended_too_large takes-too_large (length s.waiting) s (omega arith) in
-    let second : IsResting u = repeated-keeps first_entitled admitted IsResting resting-admitted (length t.waiting) (shuffled_state t) (resting-shuffled t fits none) in
+    let second : IsResting u = admission-keeps IsResting resting-admitted (shuffled_state t) (resting-shuffled t fits none) in
     let third : IsResting v = repeated-keeps first_nowait timed_out IsResting (λ a w _ p. resting-ended (deadline_end a w) a w p) (length u.waiting) u second in
     let quiet : first_nowait v ≡ None = repeated-done first_nowait timed_out takes-nowait (length u.waiting) u (omega arith) in
-    repeated-keeps first_entitled admitted IsQuiet quiet-admitted (length v.waiting) v (record { resting = third; none_nowait = quiet })
+    admission-keeps IsQuiet quiet-admitted v (record { resting = third; none_nowait = quiet })
 
 -- what settling leaves is settled
 pub settled-is-settled : (s : State) → IsSound s.definitions → AreSized s.definitions s.actual s.counters → AreThere s.definitions s.sessions s.waiting s.running

@@ -25,6 +25,7 @@ use Rattle.rm_rules.proofs.Taken.{and_left, and_right, all_push, all_found}
 use Rattle.rm_rules.proofs.AcceptanceLaws.{all_wider}
 use Rattle.rm_rules.proofs.Bytes.{used-push}
 use Rattle.rm_rules.proofs.Queue.{first_entitled_fits}
+use Rattle.rm_rules.proofs.Found.{found-behind}
 use Rattle.rm_rules.proofs.Settling.{settled-keeps}
 
 -- the use of a pool with one query more
@@ -94,16 +95,6 @@ more-settled s =
     (λ t h. record { definitions = h.definitions; more = h.more; split = h.split; within = h.within })
     (λ t w picked h. more-admitted s t w picked h)
     s (record { definitions = refl; more = []; split = sym (append-nil s.running); within = refl })
-
--- what is not found in front is found behind
-behind-turn : {A : Type 0} (test : A → Bool) (x y : A) (xs ys : List A) (b : Bool) → cond b (Some x) (find test xs) ≡ None → cond b (Some x) (find test (xs ++ ys)) ≡ Some y
-    → (find test xs ≡ None → find test (xs ++ ys) ≡ Some y → find test ys ≡ Some y) → find test ys ≡ Some y
-behind-turn test x y xs ys true none found rest = absurd (cc)
-behind-turn test x y xs ys false none found rest = rest none found
-
-pub found-behind : {A : Type 0} (test : A → Bool) (y : A) (xs ys : List A) → find test xs ≡ None → find test (xs ++ ys) ≡ Some y → find test ys ≡ Some y
-found-behind test y [] ys none found = found
-found-behind test y (x ∷ xs) ys none found = behind-turn test x y xs ys (test x) none found (found-behind test y xs ys)
 
 -- a query that runs since is one of these
 pub within-settled : (s : State) (query : ℕ) (r : Runner) → runner_called s.running query ≡ None → runner_called (settled s).running query ≡ Some r

@@ -1,6 +1,6 @@
 //! The laws over all histories. Each is the contract of a function that does nothing.
 
-ghost use Rattle.std.specs.Prelude.{◌≡◌, ℕ, ◌+◌, ◌≤◌, ◌++◌, true, false, List, [], Some, None, Err, length};
+ghost use Rattle.std.specs.Prelude.{◌≡◌, ◌↔◌, ℕ, ◌+◌, ◌≤◌, ◌++◌, true, false, List, [], Some, None, Err, length};
 ghost use Rattle.rm_base.specs.declared.definitions.Definitions.{Definitions};
 ghost use Rattle.rm_base.specs.declared.entry.Entry.{Entry};
 ghost use Rattle.rm_base.specs.declared.event.Event.{Event};
@@ -105,13 +105,12 @@ pub fn only_changes_make_entries()
         → (step s seat at event).state ≡ s }
 {}
 
-/// A reply refuses only what is refused, and a refused event changes nothing but by deadlines that had come.
+/// A reply is a refusal just where the event is refused, and a refused event changes nothing but by deadlines that had come.
 pub fn refusals_change_nothing()
     ensures refused { (s : State) (seat at : ℕ) (event : Event) (r : Refusal)
         → IsHealthy s
         → IsFormed event
-        → (step s seat at event).reply ≡ Refused r
-        → change (found_at s at) seat event ≡ Err r }
+        → ((step s seat at event).reply ≡ Refused r) ↔ (change (found_at s at) seat event ≡ Err r) }
     ensures state { (s : State) (seat at : ℕ) (event : Event) (r : Refusal)
         → IsHealthy s
         → IsFormed event
