@@ -1,4 +1,6 @@
+mod accounts;
 mod asks;
 mod defined;
+mod queue;
 mod soundness;
 mod users;

@@ -1,0 +1,135 @@
+//! Accounts, each value worked out by hand from the rules.
+ghost use Rattle.std.specs.Prelude.{◌≡◌, ◌<◌, ◌≤◌, [], ◌∷◌, length, true, false, IfOk};
+ghost use Rattle.rm_base.specs.declared.limits.TheConstants.{SESSIONS_MOST};
+ghost use Rattle.rm_rules.specs.Sound.{IsSound};
+ghost use Rattle.accounts.specs.Accounts.{names_in, names_of, has_name, has_query, taken};
+
+use accounts::Accounts;
+use rm_base::definitions::{Definitions, default_pool_row};
+use rm_base::entry::Account;
+use rm_base::name::Name;
+use std::alloc::Global;
+use std::test::Fail;
+
+/// The budget of GENERAL's queries, and that of `etl`'s.
+pub const LARGE: u64 = 19_922_944;
+
+const SMALL: u64 = 10_485_760;
+
+/// GENERAL of 80 MiB on a machine of 100 MiB.
+fn alone(alloc: Global) -> Result<Definitions, Fail>
+    ensures sound { IfOk result IsSound }
+    ensures names { IfOk result (λ definitions. names_in definitions ≡ []) }
+{
+    let mut general = default_pool_row(Name::general());
+    general.max = Some(83_886_080);
+    let mut definitions = Definitions::new(alloc, 104_857_600, 8)?;
+    definitions.pools.set(0, general);
+    Ok(definitions)
+}
+
+/// GENERAL of 80 MiB beside a pool of this MEMORYSIZE.
+fn beside(alloc: Global, pool: Name, memory: u64) -> Result<Definitions, Fail>
+    requires other { has_name [] pool ≡ false }
+    requires most { memory ≤ 31457280 }
+    ensures sound { IfOk result IsSound }
+    ensures names { IfOk result (λ definitions. names_in definitions ≡ pool ∷ []) }
+{
+    let mut general = default_pool_row(Name::general());
+    general.max = Some(83_886_080);
+    let mut row = default_pool_row(pool);
+    row.memory = memory;
+    let mut definitions = Definitions::new(alloc, 104_857_600, 8)?;
+    definitions.pools.set(0, general);
+    definitions.pools.add(row);
+    Ok(definitions)
+}
+
+/// A query begins to run, where it fits.
+pub fn take(accounts: &mut Accounts, query: u64, pool: Name, grant: u64) -> Result<(), Fail>
+    requires room { length accounts.old.grants < SESSIONS_MOST }
+    requires absent { has_query accounts.old.grants query ≡ false }
+    requires known { has_name accounts.old.reserves pool ≡ true }
+    ensures { IfOk result (λ _. accounts.new ≡ taken accounts.old query pool grant) }
+{
+    if accounts.need(pool, grant) > accounts.free() {
+        return Err("it does not fit".into());
+    }
+    accounts.take(query, pool, grant);
+    Ok(())
+}
+
+/// The memory in force, GENERAL's use and its free bytes.
+fn general_of(accounts: &Accounts) -> [u64; 3] {
+    [accounts.in_force(), accounts.lent(), accounts.free()]
+}
+
+fn account(pool: Name, own: u64, borrowed: u64) -> Account {
+    Account {
+        pool,
+        own,
+        borrowed,
+    }
+}
+
+/// Own bytes go to the pool's first queries, and a release pays back what is borrowed.
+#[test]
+fn pays_back_what_is_borrowed(rt: HostRuntime) -> Result<(), Fail> {
+    let etl = Name::of("etl").ok_or("etl")?;
+    let definitions = beside(rt.alloc(), etl, 20_971_520)?;
+    let mut accounts = Accounts::new(rt.alloc(), &definitions)?;
+    assert_eq!(rt; general_of(&accounts), [83_886_080, 0, 62_914_560]);
+    assert_eq!(rt; accounts.actual(etl), 20_971_520);
+    assert_eq!(rt; accounts.need(etl, 20_971_521), 1);
+    take(&mut accounts, 1, etl, SMALL)?;
+    take(&mut accounts, 2, etl, SMALL)?;
+    take(&mut accounts, 3, etl, SMALL)?;
+    assert_eq!(rt; general_of(&accounts), [83_886_080, SMALL, 52_428_800]);
+    assert_eq!(rt; accounts.account_of(2), account(etl, SMALL, 0));
+    assert_eq!(rt; accounts.account_of(3), account(etl, 0, SMALL));
+    assert_eq!(rt; accounts.give_back(1), SMALL);
+    assert_eq!(rt; general_of(&accounts), [83_886_080, 0, 62_914_560]);
+    assert_eq!(rt; accounts.account_of(3), account(etl, SMALL, 0));
+    assert_eq!(rt; accounts.account_of(1), account(Name::general(), 0, 0));
+    assert_eq!(rt; accounts.give_back(1), 0);
+    assert_eq!(rt;
+        (accounts.used(etl), accounts.running(etl)),
+        (20_971_520, 2)
+    );
+    if accounts.count() == 2 {
+        assert_eq!(rt; (accounts.query_at(0), accounts.query_at(1)), (2, 3));
+    }
+    Ok(())
+}
+
+/// A pool that is new grows by what is free, and then by what a release frees.
+#[test]
+fn grows_by_what_is_free(rt: HostRuntime) -> Result<(), Fail> {
+    let r = Name::of("r").ok_or("r")?;
+    let before = alone(rt.alloc())?;
+    let beside_r = beside(rt.alloc(), r, 31_457_280)?;
+    let mut accounts = Accounts::new(rt.alloc(), &before)?;
+    take_three(&mut accounts)?;
+    accounts.add_pool(r);
+    for e in accounts.reserves() {
+        assert_eq!(rt; e.size, 0);
+    }
+    accounts.shuffle(&beside_r);
+    assert_eq!(rt; accounts.actual(r), 24_117_248);
+    assert_eq!(rt; general_of(&accounts), [83_886_080, 59_768_832, 0]);
+    assert_eq!(rt; accounts.give_back(1), LARGE);
+    accounts.shuffle(&beside_r);
+    assert_eq!(rt; accounts.actual(r), 31_457_280);
+    assert_eq!(rt; general_of(&accounts), [83_886_080, 39_845_888, 12_582_912]);
+    Ok(())
+}
+
+/// Three queries begin to run in GENERAL.
+pub fn take_three(accounts: &mut Accounts) -> Result<(), Fail>
+    requires { accounts.old.grants ≡ [] }
+    ensures { IfOk result (λ _. names_of accounts.new.reserves ≡ names_of accounts.old.reserves) }
+{
+    take(accounts, 1, Name::general(), LARGE)?;
+    take(accounts, 2, Name::general(), LARGE)?;
+    take(accounts, 3, Name::general(), LARGE)
+}
