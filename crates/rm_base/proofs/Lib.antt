@@ -1,3 +1,4 @@
 pub mod NameLemmas
 pub mod Names
 pub mod Spelled
+pub mod WellFormed

@@ -5,7 +5,7 @@ use Rattle.std.specs.Char.{to_ascii_lowercase}
 use Rattle.std.specs.Str.{IsAscii, IsUtf8, str_to_ascii_lowercase}
 use Rattle.std.proofs.Common.{sym, ap, ◌∙◌, subst, arith}
 use Rattle.std.proofs.Math.Seq.{take-append_seam}
-use Rattle.std.proofs.lemmas.Bool.{leb-true, eqb-true}
+use Rattle.std.proofs.lemmas.Bool.{and_parts, leb-true, eqb-true}
 use Rattle.std.proofs.lemmas.Bool.Decides.{nat_tests}
 use Rattle.std.proofs.lemmas.List.{length-map, length-replicate, length-append}
 use Rattle.std.proofs.lemmas.Str.{IsUtf8-from_ascii}
@@ -13,16 +13,11 @@ use Rattle.std.proofs.lemmas.Str.Ascii.{IsAscii-nil, IsAscii-cons}
 use Rattle.rm_base.specs.declared.limits.TheConstants.{NAME_MOST}
 use Rattle.rm_base.specs.NameText.{begins_name, continues_name, is_bare, is_reserved, is_name_text, text_in, is_padded, keeps_name}
 
--- both parts of a test that holds
-pub both : (a b : Bool) → (a && b) ≡ true → (a ≡ true) × (b ≡ true)
-both true b h = (refl, h)
-both false b h = absurd (cc)
-
 -- a bare word has nothing but letters, digits and `_`
 pub bare_continues : (text : List ℕ) → is_bare text ≡ true → list_all continues_name text ≡ true
 bare_continues [] h = refl
 bare_continues (c ∷ cs) h =
-    let parts = both (begins_name c) (list_all continues_name cs) h in
+    let parts = and_parts (begins_name c) (list_all continues_name cs) h in
     rw (parts.0, parts.1) refl
 
 -- no such byte is a zero, and each is ASCII
@@ -48,13 +43,13 @@ is_padded-zeros (suc n) = zeros_all n
 pub text_in-padded : (text : List ℕ) (n : ℕ) → list_all continues_name text ≡ true → text_in (text ++ replicate n 0) ≡ text
 text_in-padded [] n h = text_in-zeros n
 text_in-padded (c ∷ cs) n h =
-    let parts = both (continues_name c) (list_all continues_name cs) h in
+    let parts = and_parts (continues_name c) (list_all continues_name cs) h in
     rw (continues_nonzero c parts.0, text_in-padded cs n parts.1) refl
 
 pub is_padded-padded : (text : List ℕ) (n : ℕ) → list_all continues_name text ≡ true → is_padded (text ++ replicate n 0) ≡ true
 is_padded-padded [] n h = is_padded-zeros n
 is_padded-padded (c ∷ cs) n h =
-    let parts = both (continues_name c) (list_all continues_name cs) h in
+    let parts = and_parts (continues_name c) (list_all continues_name cs) h in
     rw (continues_nonzero c parts.0) (is_padded-padded cs n parts.1)
 
 -- the three parts of what a name's text is
@@ -69,8 +64,8 @@ not_true false h = refl
 
 pub IsNameText-from : (text : List ℕ) → is_name_text text ≡ true → IsNameText text
 IsNameText-from text h =
-    let outer = both (is_bare text && nat_le (length text) NAME_MOST) (not (is_reserved text)) h in
-    let inner = both (is_bare text) (nat_le (length text) NAME_MOST) outer.0 in
+    let outer = and_parts (is_bare text && nat_le (length text) NAME_MOST) (not (is_reserved text)) h in
+    let inner = and_parts (is_bare text) (nat_le (length text) NAME_MOST) outer.0 in
     record {
       bare = inner.0;
       within = leb-true (length text) NAME_MOST inner.1;
@@ -93,15 +88,15 @@ pub record KeepsName (bytes : List ℕ) : Type 0 where
 
 pub KeepsName-from : (bytes : List ℕ) → keeps_name bytes ≡ true → KeepsName bytes
 KeepsName-from bytes h =
-    let outer = both (is_name_text (text_in bytes) && is_padded bytes) (length bytes == NAME_MOST) h in
-    let inner = both (is_name_text (text_in bytes)) (is_padded bytes) outer.0 in
+    let outer = and_parts (is_name_text (text_in bytes) && is_padded bytes) (length bytes == NAME_MOST) h in
+    let inner = and_parts (is_name_text (text_in bytes)) (is_padded bytes) outer.0 in
     record { text = inner.0; padded = inner.1; fills = eqb-true (length bytes) NAME_MOST outer.1 }
 
 -- the text of a name is ASCII
 continues_all_ascii : (text : List ℕ) → list_all continues_name text ≡ true → IsAscii text
 continues_all_ascii [] h = IsAscii-nil
 continues_all_ascii (c ∷ cs) h =
-    let parts = both (continues_name c) (list_all continues_name cs) h in
+    let parts = and_parts (continues_name c) (list_all continues_name cs) h in
     IsAscii-cons c cs (continues_ascii c parts.0) (continues_all_ascii cs parts.1)
 
 pub IsUtf8-name_text : (text : List ℕ) → is_name_text text ≡ true → IsUtf8 text
@@ -119,7 +114,7 @@ take-text_in (b ∷ bs) = at (b == 0) refl (take-text_in bs)
 zeros_are : (bs : List ℕ) → list_all (λ c. c == 0) bs ≡ true → bs ≡ replicate (length bs) 0
 zeros_are [] h = refl
 zeros_are (b ∷ bs) h =
-    let parts = both (b == 0) (list_all (λ c. c == 0) bs) h in
+    let parts = and_parts (b == 0) (list_all (λ c. c == 0) bs) h in
     let first : b ≡ 0 = eqb-true b 0 parts.0 in
     let others : bs ≡ replicate (length bs) 0 = zeros_are bs parts.1 in
     cc
@@ -153,30 +148,30 @@ padded_unique xs ys a_padded b_padded lengths texts =
     a.1 ∙ ap (λ text. text ++ replicate a.0 0) texts ∙ ap (λ n. text_in ys ++ replicate n 0) zeros ∙ sym b.1
 
 -- what `Name::of` makes of a text whose lower case is a name
-pub keeps_name-folded : (text bytes : List ℕ) → length text ≤ NAME_MOST
+pub keeps_name-lowered : (text bytes : List ℕ) → length text ≤ NAME_MOST
     → bytes ≡ str_to_ascii_lowercase text ++ replicate (NAME_MOST - length text) 0
     → is_name_text (str_to_ascii_lowercase text) ≡ true → keeps_name bytes ≡ true
-keeps_name-folded text bytes within e is =
+keeps_name-lowered text bytes within e is =
     let fills : length (str_to_ascii_lowercase text) + (NAME_MOST - length text) ≡ NAME_MOST = omega (arith, length-map text to_ascii_lowercase) in
     subst (λ kept. keeps_name kept ≡ true) (sym e) (keeps_name-padded (str_to_ascii_lowercase text) (NAME_MOST - length text) is fills)
 
-pub text_in-folded : (text bytes : List ℕ)
+pub text_in-lowered : (text bytes : List ℕ)
     → bytes ≡ str_to_ascii_lowercase text ++ replicate (NAME_MOST - length text) 0
     → is_name_text (str_to_ascii_lowercase text) ≡ true → text_in bytes ≡ str_to_ascii_lowercase text
-text_in-folded text bytes e is =
+text_in-lowered text bytes e is =
     ap text_in e
     ∙ text_in-padded (str_to_ascii_lowercase text) (NAME_MOST - length text) (bare_continues (str_to_ascii_lowercase text) (IsNameText-from (str_to_ascii_lowercase text) is).bare)
 
-front-folded : (text bytes : List ℕ) → bytes ≡ str_to_ascii_lowercase text ++ replicate (NAME_MOST - length text) 0
+front-lowered : (text bytes : List ℕ) → bytes ≡ str_to_ascii_lowercase text ++ replicate (NAME_MOST - length text) 0
     → take (length text) bytes ≡ str_to_ascii_lowercase text
-front-folded text bytes e =
+front-lowered text bytes e =
     ap (take (length text)) e
     ∙ ap (λ n. take n (str_to_ascii_lowercase text ++ replicate (NAME_MOST - length text) 0)) (sym (length-map text to_ascii_lowercase))
     ∙ take-append_seam (str_to_ascii_lowercase text) (replicate (NAME_MOST - length text) 0)
 
-pub is_name_text-folded : (text bytes : List ℕ) → bytes ≡ str_to_ascii_lowercase text ++ replicate (NAME_MOST - length text) 0
+pub is_name_text-lowered : (text bytes : List ℕ) → bytes ≡ str_to_ascii_lowercase text ++ replicate (NAME_MOST - length text) 0
     → is_name_text (take (length text) bytes) ≡ true → is_name_text (str_to_ascii_lowercase text) ≡ true
-is_name_text-folded text bytes e is = ap is_name_text (sym (front-folded text bytes e)) ∙ is
+is_name_text-lowered text bytes e is = ap is_name_text (sym (front-lowered text bytes e)) ∙ is
 
 -- a result that is no error
 pub IsOk-unless : {T E : Type 0} → (r : Result T E) (P : T → Type 0) (Q : E → Type 0) → MatchResult r P Q → ((e : E) → Q e → ⊥) → IsOk r

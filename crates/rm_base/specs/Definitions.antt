@@ -1,5 +1,6 @@
 use Rattle.std.specs.Prelude.{ℕ, [], ◌∷◌, Some, None, pos}
 use Rattle.rm_base.specs.declared.definitions.Definitions.{Definitions}
+use Rattle.rm_base.specs.declared.limits.TheConstants.{QUEUE_MS_DEFAULT, THRESHOLD_SECONDS_DEFAULT}
 use Rattle.rm_base.specs.declared.rows.PoolRow.{PoolRow}
 use Rattle.rm_base.specs.declared.rows.UserRow.{UserRow}
 use Rattle.rm_base.specs.declared.statement.Level.TheVariants.{Medium}
@@ -16,8 +17,8 @@ default_pool_row name = record {
   parallel = None;
   priority = pos 0;
   runtime_priority = Medium;
-  threshold_s = 2;
-  queue_ms = Some 300000;
+  threshold_s = THRESHOLD_SECONDS_DEFAULT;
+  queue_ms = Some QUEUE_MS_DEFAULT;
   planned = None;
   concurrency = None;
   cap_ms = None;

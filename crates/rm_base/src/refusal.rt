@@ -1,4 +1,5 @@
 use crate::name::Name;
+use crate::refusal_value::{RefusalValue, RefusalValues};
 use std::fmt;
 
 /// Whose cap on a query's memory is the least.
@@ -89,15 +90,15 @@ impl fmt::Display for CapKind {
     }
 }
 
-impl fmt::Display for Parameter {
-    ghost use Rattle.std.specs.Prelude.{Some};
+impl Parameter {
+    ghost use Rattle.std.specs.Prelude.{◌≡◌};
     ghost use Rattle.rm_base.specs.RefusalText.{parameter_text};
 
-    ghost output = { λ named. Some (parameter_text named) };
-
     /// The key word, in capitals.
-    fn fmt<W: fmt::Write>(&self, f: &mut fmt::Formatter<W>) -> fmt::Result {
-        f.write_str(match self {
+    pub fn text(self) -> &'static str
+        ensures { result.now ≡ parameter_text self }
+    {
+        match self {
             Parameter::MemorySize => "MEMORYSIZE",
             Parameter::MaxMemorySize => "MAXMEMORYSIZE",
             Parameter::MaxQueryMemorySize => "MAXQUERYMEMORYSIZE",
@@ -112,7 +113,18 @@ impl fmt::Display for Parameter {
             Parameter::Cascade => "CASCADE",
             Parameter::ResourcePool => "RESOURCE",
             Parameter::MemoryCap => "MEMORYCAP",
-        })
+        }
+    }
+}
+
+impl fmt::Display for Parameter {
+    ghost use Rattle.std.specs.Prelude.{Some};
+    ghost use Rattle.rm_base.specs.RefusalText.{parameter_text};
+
+    ghost output = { λ named. Some (parameter_text named) };
+
+    fn fmt<W: fmt::Write>(&self, f: &mut fmt::Formatter<W>) -> fmt::Result {
+        f.write_str(self.text())
     }
 }
 
@@ -133,6 +145,100 @@ impl fmt::Display for TableKind {
     }
 }
 
+impl Refusal {
+    ghost use Rattle.std.specs.Prelude.{◌≡◌};
+    ghost use Rattle.rm_base.specs.RefusalText.{refusal_number, refusal_values};
+
+    /// From 1 on in the order of the variants.
+    pub fn number(&self) -> u32
+        ensures { result ≡ refusal_number self.now }
+    {
+        match self {
+            Refusal::Syntax(_) => 1,
+            Refusal::UnknownParameter(_) => 2,
+            Refusal::Repeated(_) => 3,
+            Refusal::NotSupported(_) => 4,
+            Refusal::Range(_) => 5,
+            Refusal::NameTaken => 6,
+            Refusal::NoSuchPool(_) => 7,
+            Refusal::NoSuchUser(_) => 8,
+            Refusal::NoSuchRole(_) => 9,
+            Refusal::BuiltIn => 10,
+            Refusal::MaxBelowMemory(..) => 11,
+            Refusal::GeneralTooSmall(..) => 12,
+            Refusal::NoSuchTarget(_) => 13,
+            Refusal::CascadeLoop(_) => 14,
+            Refusal::ChainTooLong(_) => 15,
+            Refusal::Dependents(_) => 16,
+            Refusal::TableFull(..) => 17,
+            Refusal::NotGranted(_) => 18,
+            Refusal::TooLarge(..) => 19,
+            Refusal::NoSuchSession => 20,
+            Refusal::SessionBusy => 21,
+            Refusal::NotLive => 22,
+            Refusal::NoUsage(_) => 23,
+            Refusal::SessionsFull(_) => 24,
+            Refusal::JournalFull(_) => 25,
+            Refusal::NoSuchTable(_) => 26,
+            Refusal::NoSuchColumn(_) => 27,
+            Refusal::Ambiguous(_) => 28,
+            Refusal::TypeClash(_) => 29,
+            Refusal::NotGrouped(_) => 30,
+            Refusal::TooManyTables(_) => 31,
+        }
+    }
+
+    /// What it was refused for, in the order of the text.
+    pub fn values(&self) -> RefusalValues
+        ensures { result ≡ refusal_values self.now }
+    {
+        use RefusalValue::{Cap, Name, Number, Parameter, Table};
+        match *self {
+            Refusal::Syntax(place) => RefusalValues::one(Number(place)),
+            Refusal::UnknownParameter(place) => RefusalValues::one(Number(place)),
+            Refusal::Repeated(named) => RefusalValues::one(Parameter(named)),
+            Refusal::NotSupported(place) => RefusalValues::one(Number(place)),
+            Refusal::Range(named) => RefusalValues::one(Parameter(named)),
+            Refusal::NameTaken => RefusalValues::none(),
+            Refusal::NoSuchPool(pool) => RefusalValues::one(Name(pool)),
+            Refusal::NoSuchUser(user) => RefusalValues::one(Name(user)),
+            Refusal::NoSuchRole(role) => RefusalValues::one(Name(role)),
+            Refusal::BuiltIn => RefusalValues::none(),
+            Refusal::MaxBelowMemory(max, memory) => RefusalValues::two(Number(max), Number(memory)),
+            Refusal::GeneralTooSmall(left, least) => RefusalValues::two(
+                Number(left),
+                Number(least),
+            ),
+            Refusal::NoSuchTarget(pool) => RefusalValues::one(Name(pool)),
+            Refusal::CascadeLoop(pool) => RefusalValues::one(Name(pool)),
+            Refusal::ChainTooLong(pools) => RefusalValues::one(Number(u64::from(pools))),
+            Refusal::Dependents(pool) => RefusalValues::one(Name(pool)),
+            Refusal::TableFull(kind, count) => RefusalValues::two(
+                Table(kind),
+                Number(u64::from(count)),
+            ),
+            Refusal::NotGranted(pool) => RefusalValues::one(Name(pool)),
+            Refusal::TooLarge(which, floor, cap) => RefusalValues::three(
+                Cap(which),
+                Number(floor),
+                Number(cap),
+            ),
+            Refusal::NoSuchSession => RefusalValues::none(),
+            Refusal::SessionBusy => RefusalValues::none(),
+            Refusal::NotLive => RefusalValues::none(),
+            Refusal::NoUsage(pool) => RefusalValues::one(Name(pool)),
+            Refusal::SessionsFull(most) => RefusalValues::one(Number(u64::from(most))),
+            Refusal::JournalFull(room) => RefusalValues::one(Number(u64::from(room))),
+            Refusal::NoSuchTable(table) => RefusalValues::one(Name(table)),
+            Refusal::NoSuchColumn(column) => RefusalValues::one(Name(column)),
+            Refusal::Ambiguous(name) => RefusalValues::one(Name(name)),
+            Refusal::TypeClash(place) => RefusalValues::one(Number(place)),
+            Refusal::NotGrouped(place) => RefusalValues::one(Number(place)),
+            Refusal::TooManyTables(most) => RefusalValues::one(Number(u64::from(most))),
+        }
+    }
+}
+
 impl fmt::Display for Refusal {
     ghost use Rattle.std.specs.Prelude.{Some};
     ghost use Rattle.rm_base.specs.RefusalText.{refusal_text};
@@ -141,188 +247,12 @@ impl fmt::Display for Refusal {
 
     /// `refused` and the refusal's number, and its values, each after one space.
     fn fmt<W: fmt::Write>(&self, f: &mut fmt::Formatter<W>) -> fmt::Result {
-        match self {
-            Refusal::Syntax(place) => write!(f, "refused 1 {place}"),
-            Refusal::UnknownParameter(place) => write!(f, "refused 2 {place}"),
-            Refusal::Repeated(named) => write!(f, "refused 3 {named}"),
-            Refusal::NotSupported(place) => write!(f, "refused 4 {place}"),
-            Refusal::Range(named) => write!(f, "refused 5 {named}"),
-            Refusal::NameTaken => write!(f, "refused 6"),
-            Refusal::NoSuchPool(pool) => write!(f, "refused 7 {pool}"),
-            Refusal::NoSuchUser(user) => write!(f, "refused 8 {user}"),
-            Refusal::NoSuchRole(role) => write!(f, "refused 9 {role}"),
-            Refusal::BuiltIn => write!(f, "refused 10"),
-            Refusal::MaxBelowMemory(max, memory) => write!(f, "refused 11 {max} {memory}"),
-            Refusal::GeneralTooSmall(left, least) => write!(f, "refused 12 {left} {least}"),
-            Refusal::NoSuchTarget(pool) => write!(f, "refused 13 {pool}"),
-            Refusal::CascadeLoop(pool) => write!(f, "refused 14 {pool}"),
-            Refusal::ChainTooLong(pools) => write!(f, "refused 15 {pools}"),
-            Refusal::Dependents(pool) => write!(f, "refused 16 {pool}"),
-            Refusal::TableFull(kind, count) => write!(f, "refused 17 {kind} {count}"),
-            Refusal::NotGranted(pool) => write!(f, "refused 18 {pool}"),
-            Refusal::TooLarge(which, floor, cap) => write!(f, "refused 19 {which} {floor} {cap}"),
-            Refusal::NoSuchSession => write!(f, "refused 20"),
-            Refusal::SessionBusy => write!(f, "refused 21"),
-            Refusal::NotLive => write!(f, "refused 22"),
-            Refusal::NoUsage(pool) => write!(f, "refused 23 {pool}"),
-            Refusal::SessionsFull(most) => write!(f, "refused 24 {most}"),
-            Refusal::JournalFull(room) => write!(f, "refused 25 {room}"),
-            Refusal::NoSuchTable(table) => write!(f, "refused 26 {table}"),
-            Refusal::NoSuchColumn(column) => write!(f, "refused 27 {column}"),
-            Refusal::Ambiguous(name) => write!(f, "refused 28 {name}"),
-            Refusal::TypeClash(place) => write!(f, "refused 29 {place}"),
-            Refusal::NotGrouped(place) => write!(f, "refused 30 {place}"),
-            Refusal::TooManyTables(most) => write!(f, "refused 31 {most}"),
+        let number = self.number();
+        match self.values().as_slice() {
+            [] => write!(f, "refused {number}"),
+            [first] => write!(f, "refused {number} {first}"),
+            [first, second] => write!(f, "refused {number} {first} {second}"),
+            [first, second, third, ..] => write!(f, "refused {number} {first} {second} {third}"),
         }
-    }
-}
-
-#[cfg(test)]
-mod tests {
-    use super::*;
-    use crate::reply::CapOwner;
-    use std::test::Fail;
-
-    const CASES: [(Refusal, &str); 38] = [
-        (Refusal::Syntax(0), "refused 1 0"),
-        (Refusal::UnknownParameter(24), "refused 2 24"),
-        (
-            Refusal::NotSupported(18_446_744_073_709_551_615),
-            "refused 4 18446744073709551615",
-        ),
-        (Refusal::NameTaken, "refused 6"),
-        (Refusal::BuiltIn, "refused 10"),
-        (Refusal::MaxBelowMemory(10, 20), "refused 11 10 20"),
-        (Refusal::GeneralTooSmall(3, 4), "refused 12 3 4"),
-        (Refusal::ChainTooLong(9), "refused 15 9"),
-        (
-            Refusal::TableFull(TableKind::Pools, 64),
-            "refused 17 pools 64",
-        ),
-        (
-            Refusal::TooLarge(CapKind::Query, 7, 5),
-            "refused 19 query 7 5",
-        ),
-        (Refusal::NoSuchSession, "refused 20"),
-        (Refusal::SessionBusy, "refused 21"),
-        (Refusal::NotLive, "refused 22"),
-        (Refusal::SessionsFull(128), "refused 24 128"),
-        (Refusal::JournalFull(65_536), "refused 25 65536"),
-        (Refusal::TypeClash(31), "refused 29 31"),
-        (Refusal::NotGrouped(7), "refused 30 7"),
-        (Refusal::TooManyTables(3), "refused 31 3"),
-        (Refusal::Repeated(Parameter::Cascade), "refused 3 CASCADE"),
-        (
-            Refusal::Repeated(Parameter::ResourcePool),
-            "refused 3 RESOURCE",
-        ),
-        (
-            Refusal::Range(Parameter::MemorySize),
-            "refused 5 MEMORYSIZE",
-        ),
-        (
-            Refusal::Range(Parameter::MaxMemorySize),
-            "refused 5 MAXMEMORYSIZE",
-        ),
-        (
-            Refusal::Range(Parameter::MaxQueryMemorySize),
-            "refused 5 MAXQUERYMEMORYSIZE",
-        ),
-        (
-            Refusal::Range(Parameter::ExecutionParallelism),
-            "refused 5 EXECUTIONPARALLELISM",
-        ),
-        (Refusal::Range(Parameter::Priority), "refused 5 PRIORITY"),
-        (
-            Refusal::Range(Parameter::RuntimePriority),
-            "refused 5 RUNTIMEPRIORITY",
-        ),
-        (
-            Refusal::Range(Parameter::RuntimePriorityThreshold),
-            "refused 5 RUNTIMEPRIORITYTHRESHOLD",
-        ),
-        (
-            Refusal::Range(Parameter::QueueTimeout),
-            "refused 5 QUEUETIMEOUT",
-        ),
-        (
-            Refusal::Range(Parameter::PlannedConcurrency),
-            "refused 5 PLANNEDCONCURRENCY",
-        ),
-        (
-            Refusal::Range(Parameter::MaxConcurrency),
-            "refused 5 MAXCONCURRENCY",
-        ),
-        (
-            Refusal::Range(Parameter::RuntimeCap),
-            "refused 5 RUNTIMECAP",
-        ),
-        (Refusal::Range(Parameter::MemoryCap), "refused 5 MEMORYCAP"),
-        (
-            Refusal::TableFull(TableKind::Users, 256),
-            "refused 17 users 256",
-        ),
-        (
-            Refusal::TableFull(TableKind::Roles, 64),
-            "refused 17 roles 64",
-        ),
-        (
-            Refusal::TableFull(TableKind::Grants, 1_024),
-            "refused 17 grants 1024",
-        ),
-        (
-            Refusal::TableFull(TableKind::Changes, 4_096),
-            "refused 17 changes 4096",
-        ),
-        (
-            Refusal::TooLarge(CapKind::Pool, 7, 5),
-            "refused 19 pool 7 5",
-        ),
-        (
-            Refusal::TooLarge(CapKind::User, 7, 5),
-            "refused 19 user 7 5",
-        ),
-    ];
-
-    const OWNERS: [(CapOwner, &str); 3] = [
-        (CapOwner::User, "user"),
-        (CapOwner::Session, "session"),
-        (CapOwner::Pool, "pool"),
-    ];
-
-    #[test]
-    fn writes_refusals_by_number(rt: HostRuntime) -> Result<(), Fail> {
-        for (refusal, text) in CASES {
-            let written = refusal.to_string(rt.alloc())?;
-            assert_eq!(rt; written.as_str(), text);
-        }
-        for (owner, text) in OWNERS {
-            let written = owner.to_string(rt.alloc())?;
-            assert_eq!(rt; written.as_str(), text);
-        }
-        Ok(())
-    }
-
-    #[test]
-    fn writes_names_in_refusals(rt: HostRuntime) -> Result<(), Fail> {
-        let etl = Name::of("ETL").ok_or("etl")?;
-        let cases = [
-            (Refusal::NoSuchPool(etl), "refused 7 etl"),
-            (Refusal::NoSuchUser(etl), "refused 8 etl"),
-            (Refusal::NoSuchRole(etl), "refused 9 etl"),
-            (Refusal::NoSuchTarget(etl), "refused 13 etl"),
-            (Refusal::CascadeLoop(etl), "refused 14 etl"),
-            (Refusal::Dependents(etl), "refused 16 etl"),
-            (Refusal::NotGranted(etl), "refused 18 etl"),
-            (Refusal::NoUsage(etl), "refused 23 etl"),
-            (Refusal::NoSuchTable(etl), "refused 26 etl"),
-            (Refusal::NoSuchColumn(etl), "refused 27 etl"),
-            (Refusal::Ambiguous(etl), "refused 28 etl"),
-        ];
-        for (refusal, text) in cases {
-            let written = refusal.to_string(rt.alloc())?;
-            assert_eq!(rt; written.as_str(), text);
-        }
-        Ok(())
     }
 }

@@ -2,7 +2,7 @@ use Rattle.std.specs.Prelude.{◌-◌, ◌++◌, map, length, replicate}
 use Rattle.std.specs.Char.{to_ascii_lowercase}
 use Rattle.std.proofs.Common.{ap, ◌∙◌}
 use Rattle.std.proofs.lemmas.List.{drop-replicate}
-use Rattle.rm_base.proofs.name.folded.Goals as goal
+use Rattle.rm_base.proofs.name.lowered.Goals as goal
 
 pub returns : goal.returns
 returns c =
