@@ -2,14 +2,14 @@
 ghost use Rattle.std.specs.Prelude.{◌≡◌, ◌≤◌, ◌*◌, IsTrue};
 ghost use Rattle.rm_base.specs.declared.limits.TheConstants.{MEMORY_MOST};
 ghost use Rattle.rm_base.specs.Ranges.{is_pool_in_range};
-ghost use Rattle.rm_rules.specs.Budget.{within, cap, narrowed, least_cap};
+ghost use Rattle.rm_rules.specs.Ask.{within, cap, narrowed, least_cap};
 ghost use Rattle.rm_rules.specs.Sound.{IsSound};
 
-use crate::definitions::{memory_cap, reserved, total};
 use rm_base::definitions::Definitions;
 use rm_base::name::Name;
 use rm_base::refusal::CapKind;
 use rm_base::rows::PoolRow;
+use rm_rules::readings::{memory_cap, reserved, total};
 use rm_rules::state::Cap;
 
 /// The number within a limit, where there is one.
@@ -23,6 +23,7 @@ fn within(most: Option<u64>, bytes: u64) -> u64
 }
 
 /// What the pool's queries can hold in all.
+#[tactic(auto, using(rm_rules::proofs::Sizes::sound_memory_most))]
 pub fn row_cap(definitions: &Definitions, row: &PoolRow) -> u64
     requires sound { IsSound definitions.now }
     requires in_range { IsTrue (is_pool_in_range row.now) }
@@ -53,7 +54,7 @@ fn narrowed(cap: Cap, kind: CapKind, bytes: Option<u64>) -> Cap
 }
 
 /// The least of the pool's cap, its MAXQUERYMEMORYSIZE and the user's MEMORYCAP.
-pub fn least_cap(definitions: &Definitions, row: &PoolRow, user: Name) -> Cap
+pub fn row_least_cap(definitions: &Definitions, row: &PoolRow, user: Name) -> Cap
     requires sound { IsSound definitions.now }
     requires in_range { IsTrue (is_pool_in_range row.now) }
     ensures value { result ≡ least_cap definitions.now row.now user }

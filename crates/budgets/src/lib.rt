@@ -3,21 +3,21 @@
 
 ghost use Rattle.std.specs.Prelude.{◌≡◌, ◌≤◌, ◌*◌, ◌↔◌, IsTrue, IsErr, IfOk, IfErr};
 ghost use Rattle.rm_base.specs.declared.limits.TheConstants.{MEMORY_MOST};
-ghost use Rattle.rm_rules.specs.Definitions.{pool_row, total, planned};
-ghost use Rattle.rm_rules.specs.Budget.{threshold, budget, cap, least_cap, ask, is_too_large, too_large};
+ghost use Rattle.rm_rules.specs.Definitions.{pool_row, planned};
+ghost use Rattle.rm_rules.specs.Budget.{threshold, budget};
+ghost use Rattle.rm_rules.specs.Ask.{cap, least_cap, ask, is_too_large, too_large};
 ghost use Rattle.rm_rules.specs.Sound.{IsSound};
 
 mod caps;
-mod definitions;
 mod shares;
 
-use crate::caps::{least_cap, row_cap};
-pub use crate::definitions::total;
+use crate::caps::{row_cap, row_least_cap};
 use crate::shares::{row_budget, row_planned, row_threshold};
 use rm_base::definitions::Definitions;
 use rm_base::name::Name;
 use rm_base::refusal::Refusal;
-use rm_rules::rows::pool_row;
+use rm_rules::readings::pool_row;
+use rm_rules::state::Cap;
 
 /// PLANNEDCONCURRENCY in force: so many queries share what the pool has.
 pub fn planned(definitions: &Definitions, pool: Name) -> u32
@@ -55,6 +55,26 @@ pub fn cap(definitions: &Definitions, pool: Name) -> u64
     row_cap(definitions, &pool_row(definitions, pool))
 }
 
+/// The least cap on what a query of this user can hold in the pool, and whose it is.
+pub fn least_cap(definitions: &Definitions, pool: Name, user: Name) -> Cap
+    requires { IsSound definitions.now }
+    ensures value { result ≡ least_cap definitions.now (pool_row definitions.now pool) user }
+    ensures most { result.bytes ≤ 2 * MEMORY_MOST }
+{
+    row_least_cap(definitions, &pool_row(definitions, pool), user)
+}
+
+/// What a query of this user with this floor asks for in the pool: where its floor is above the least cap, that cap.
+pub fn asked(definitions: &Definitions, pool: Name, user: Name, floor: u64) -> u64
+    requires { IsSound definitions.now }
+    ensures value { result ≡ ask definitions.now (pool_row definitions.now pool) user floor }
+    ensures most { result ≤ 2 * MEMORY_MOST }
+{
+    let row = pool_row(definitions, pool);
+    let wanted = row_budget(definitions, &row).max(floor);
+    wanted.min(row_least_cap(definitions, &row, user).bytes)
+}
+
 /// What a query of this user with this floor asks for in the pool. A floor above the least cap is refused.
 pub fn ask(definitions: &Definitions, pool: Name, user: Name, floor: u64) -> Result<u64, Refusal>
     requires { IsSound definitions.now }
@@ -66,14 +86,9 @@ pub fn ask(definitions: &Definitions, pool: Name, user: Name, floor: u64) -> Res
         refusal ≡ too_large definitions.now (pool_row definitions.now pool) user floor) }
     ensures large { IsErr result ↔ IsTrue (is_too_large definitions.now (pool_row definitions.now pool) user floor) }
 {
-    let row = pool_row(definitions, pool);
-    let least = least_cap(definitions, &row, user);
+    let least = least_cap(definitions, pool, user);
     if least.bytes < floor {
         return Err(Refusal::TooLarge(least.kind, floor, least.bytes));
     }
-    let wanted = row_budget(definitions, &row).max(floor);
-    Ok(wanted.min(least.bytes))
+    Ok(asked(definitions, pool, user, floor))
 }
-
-#[cfg(test)]
-mod tests;

@@ -7,31 +7,27 @@ ghost use Rattle.rm_rules.specs.Definitions.{total, planned};
 ghost use Rattle.rm_rules.specs.Budget.{threshold, budget};
 ghost use Rattle.rm_rules.specs.Sound.{IsSound};
 
-use crate::definitions::total;
 use rm_base::definitions::Definitions;
+use rm_base::limits::{PLANNED_LEAST, PLANNED_SHARE};
 use rm_base::name::Name;
 use rm_base::rows::PoolRow;
-
-/// Under AUTO, so many queries are planned at least.
-const PLANNED_LEAST: u32 = 4;
-
-/// Under AUTO, one query is planned for each so many bytes of the total: 2 GiB.
-const PLANNED_BYTES: u64 = 2_147_483_648;
+use rm_rules::readings::{total, usable};
 
 /// PLANNEDCONCURRENCY in force.
-#[tactic(auto, using(crate::proofs::Bounds::planned_least))]
+#[tactic(auto, using(crate::proofs::Bounds::planned_least, rm_rules::proofs::Sizes::sound_memory_most))]
 pub fn row_planned(definitions: &Definitions, row: &PoolRow) -> u32
     requires sound { IsSound definitions.now }
     requires in_range { IsTrue (is_pool_in_range row.now) }
     ensures value { result ≡ planned definitions.now row.now }
     ensures least { 1 ≤ result }
 {
-    let by_total = (total(definitions) / PLANNED_BYTES) as u32;
+    let by_total = (total(definitions) / PLANNED_SHARE) as u32;
     let automatic = PLANNED_LEAST.max(definitions.cores.min(by_total));
     row.planned.unwrap_or(automatic)
 }
 
 /// The total for GENERAL, else what the pool's MAXMEMORYSIZE leaves of it.
+#[tactic(auto, using(rm_rules::proofs::Sizes::sound_memory_most))]
 fn reach(definitions: &Definitions, row: &PoolRow) -> u64
     requires sound { IsSound definitions.now }
     requires in_range { IsTrue (is_pool_in_range row.now) }
@@ -46,14 +42,14 @@ fn reach(definitions: &Definitions, row: &PoolRow) -> u64
     row.max.unwrap_or(total)
 }
 
-/// 95 percent of what the pool may reach.
+/// What the pool's queries may hold before others wait.
 pub fn row_threshold(definitions: &Definitions, row: &PoolRow) -> u64
     requires sound { IsSound definitions.now }
     requires in_range { IsTrue (is_pool_in_range row.now) }
     ensures value { result ≡ threshold definitions.now row.now }
     ensures most { result ≤ MEMORY_MOST }
 {
-    95 * reach(definitions, row) / 100
+    usable(reach(definitions, row))
 }
 
 /// What the planned queries share.

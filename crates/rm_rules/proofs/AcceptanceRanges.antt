@@ -13,7 +13,7 @@ use Rattle.rm_base.specs.declared.statement.Size.TheVariants.{Bytes, Percent}
 use Rattle.rm_base.specs.declared.statement.PoolChange.{PoolChange}
 use Rattle.rm_base.specs.Name.{same_name, general}
 use Rattle.rm_rules.specs.Definitions.{total}
-use Rattle.rm_base.specs.Ranges.{passes_if_set, is_between, is_priority, is_size, is_pool_change_in_range, is_pool_in_range}
+use Rattle.rm_base.specs.Ranges.{passes_if_set, is_between, is_priority, is_size_in_range, is_pool_change_in_range, is_pool_in_range}
 use Rattle.rm_rules.specs.Acceptance.{bytes_of, max_whole, changed_row}
 use Rattle.rm_rules.proofs.Taken.{and_left, and_right, and_both}
 
@@ -21,7 +21,7 @@ le-true : (a b : ℕ) → a ≤ b → nat_le a b ≡ true
 le-true a b h = grind (arith, nat_tests)
 
 -- a size in bytes is within the greatest, where that of which it is taken is
-bytes-fit : (whole : ℕ) (size : Size) → whole ≤ MEMORY_MOST → is_size size ≡ true → nat_le (bytes_of whole size) MEMORY_MOST ≡ true
+bytes-fit : (whole : ℕ) (size : Size) → whole ≤ MEMORY_MOST → is_size_in_range size ≡ true → nat_le (bytes_of whole size) MEMORY_MOST ≡ true
 bytes-fit whole (Bytes n) fits h = h
 bytes-fit whole (Percent n) fits h =
     le-true (n * whole / 100) MEMORY_MOST (div-le_of_le-mul 100 (mul-le-mul {n₁ = n} {m₁ = whole} {n₂ = 100} {m₂ = MEMORY_MOST} (leb-true n 100 h) fits))
@@ -36,12 +36,12 @@ limit-passes : {A : Type 0} (p : A → Bool) (named : Option (Option A)) (had : 
 limit-passes p None had named kept = kept
 limit-passes p (Some x) had named kept = named
 
-size-fits : (whole : ℕ) (named : Option Size) (had : ℕ) → whole ≤ MEMORY_MOST → passes_if_set is_size named ≡ true → nat_le had MEMORY_MOST ≡ true
+size-fits : (whole : ℕ) (named : Option Size) (had : ℕ) → whole ≤ MEMORY_MOST → passes_if_set is_size_in_range named ≡ true → nat_le had MEMORY_MOST ≡ true
     → nat_le (unwrap_or (option_map (bytes_of whole) named) had) MEMORY_MOST ≡ true
 size-fits whole None had fits named kept = kept
 size-fits whole (Some size) had fits named kept = bytes-fit whole size fits named
 
-limit-fits : (whole : ℕ) (named : Option (Option Size)) (had : Option ℕ) → whole ≤ MEMORY_MOST → passes_if_set (passes_if_set is_size) named ≡ true
+limit-fits : (whole : ℕ) (named : Option (Option Size)) (had : Option ℕ) → whole ≤ MEMORY_MOST → passes_if_set (passes_if_set is_size_in_range) named ≡ true
     → passes_if_set (λ n. nat_le n MEMORY_MOST) had ≡ true
     → passes_if_set (λ n. nat_le n MEMORY_MOST) (unwrap_or (option_map (option_map (bytes_of whole)) named) had) ≡ true
 limit-fits whole None had fits named kept = kept

@@ -1,7 +1,7 @@
 -- Which statements are accepted, and what an accepted statement leaves.
 use Rattle.std.specs.Prelude.{◌≡◌, ℕ, zero, suc, ◌+◌, ◌-◌, ◌*◌, ◌/◌, Bool, true, false, ◌&&◌, nat_lt, nat_le, not, List, [], ◌∷◌, Option, Some, None, Result, Ok, Err, is_some, unwrap_or, option_map, option_and_then, length, max, if◌then◌else◌}
 use Rattle.std.specs.List.{list_any}
-use Rattle.rm_base.specs.declared.limits.TheConstants.{TOTAL_LEAST, POOLS_MOST, CHANGES_MOST, CHAIN_MOST}
+use Rattle.rm_base.specs.declared.limits.TheConstants.{TOTAL_LEAST, GENERAL_PART, POOLS_MOST, CHANGES_MOST, CHAIN_MOST}
 use Rattle.rm_base.specs.declared.definitions.Definitions.{Definitions}
 use Rattle.rm_base.specs.declared.rows.PoolRow.{PoolRow}
 use Rattle.rm_base.specs.declared.name.Name.{Name}
@@ -107,7 +107,7 @@ max_below_memory (Some most) memory = refused_if (nat_lt most memory) (refusal.M
 abbrev pub general_too_small : Definitions → Option Refusal
 general_too_small new =
     let left = total new - reserved new in
-    refused_if (nat_lt (4 * left) (total new)) (refusal.GeneralTooSmall left ((total new + 3) / 4))
+    refused_if (nat_lt (GENERAL_PART * left) (total new)) (refusal.GeneralTooSmall left ((total new + (GENERAL_PART - 1)) / GENERAL_PART))
 
 -- 13: CASCADE TO, where it is set, names no pool
 abbrev pub target_missing : Definitions → Option Name → Option Refusal

@@ -1,7 +1,7 @@
 -- When definitions are sound.
 use Rattle.std.specs.Prelude.{◌≡◌, ℕ, ◌-◌, ◌*◌, ◌≤◌, zero, suc, Bool, true, false, ◌&&◌, ◌==◌, nat_le, not, List, [], ◌∷◌, ◌++◌, Option, Some, None, is_some, length, map}
 use Rattle.std.specs.List.{list_all, list_any}
-use Rattle.rm_base.specs.declared.limits.TheConstants.{MEMORY_LEAST, MEMORY_MOST, TOTAL_LEAST, CORES_MOST, POOLS_MOST, USERS_MOST, ROLES_MOST, GRANTS_MOST, CHANGES_MOST, CHAIN_MOST}
+use Rattle.rm_base.specs.declared.limits.TheConstants.{MEMORY_LEAST, MEMORY_MOST, TOTAL_LEAST, GENERAL_PART, CORES_MOST, POOLS_MOST, USERS_MOST, ROLES_MOST, GRANTS_MOST, CHANGES_MOST, CHAIN_MOST}
 use Rattle.rm_base.specs.declared.definitions.Definitions.{Definitions}
 use Rattle.rm_base.specs.declared.rows.PoolRow.{PoolRow}
 use Rattle.rm_base.specs.declared.rows.GrantRow.{GrantRow}
@@ -73,7 +73,7 @@ pub record IsSound (d : Definitions) : Type 0 where
   pub total_least : TOTAL_LEAST ≤ total d
   pub total_most : total d ≤ d.memory
   pub reserved_most : reserved d ≤ total d
-  pub quarter_left : total d ≤ 4 * (total d - reserved d)
+  pub quarter_left : total d ≤ GENERAL_PART * (total d - reserved d)
   pub chains_end : list_all (λ r. chain_ends d.pools (CHAIN_MOST - 1) r.cascade) d.pools ≡ true
   pub user_pools_there : list_all (λ u. passes_if_set (has_pool d) u.pool) d.users ≡ true
   pub role_pools_there : list_all (λ r. passes_if_set (has_pool d) r.pool) d.roles ≡ true
