@@ -7,3 +7,8 @@ pub mod AcceptanceRanges
 pub mod Known
 pub mod Sizes
 pub mod AcceptanceLaws
+pub mod Bytes
+pub mod Queue
+pub mod Conserved
+pub mod Shuffling
+pub mod Covering

@@ -1,5 +1,5 @@
 -- Lemmas on names, and on sums that are split by pools.
-use Rattle.std.specs.Prelude.{◌≡◌, ℕ, ◌+◌, Bool, true, false, not, ◌==◌, List, [], ◌∷◌, Some, None, is_some, find, length, map, sum, sum_by, zip, refl, if◌then◌else◌}
+use Rattle.std.specs.Prelude.{◌≡◌, ℕ, ◌+◌, Bool, true, false, not, ◌==◌, List, [], ◌∷◌, is_some, find, map, sum_by, refl, if◌then◌else◌}
 use Rattle.std.specs.List.{list_all, list_any}
 use Rattle.std.proofs.Common.{sym, ap, ◌∙◌, subst, true≢false, arith}
 use Rattle.std.proofs.lemmas.Bool.{and_parts, not-true}
@@ -8,26 +8,36 @@ use Rattle.rm_base.specs.declared.rows.PoolRow.{PoolRow}
 use Rattle.rm_base.specs.declared.name.Name.{Name}
 use Rattle.rm_base.specs.Name.{same_name, general}
 use Rattle.rm_base.proofs.Names.{same_name-refl, same_name-eq, same_name-sym}
+use Rattle.rm_rules.specs.declared.state.Reserve.{Reserve}
 use Rattle.rm_rules.specs.Definitions.{pool_called, user_pools}
+use Rattle.rm_rules.specs.Accounting.{of_reserve}
 use Rattle.rm_rules.specs.Sound.{begins_with_general, are_distinct}
 
--- the names of these rows
+-- the names of these rows, and of the pools of these reserves
 abbrev pub names : List PoolRow → List Name
 names rows = map (λ r. r.name) rows
+
+abbrev pub reserve_names : List Reserve → List Name
+reserve_names es = map (λ e. e.pool) es
 
 -- what of an item counts in this pool
 abbrev pub in_pool : {A : Type 0} → (A → Name) → (A → ℕ) → Name → A → ℕ
 in_pool pool f p x = if same_name (pool x) p then f x else 0
 
--- what the first entry of this name is worth, or nothing
-abbrev pub worth : (PoolRow × ℕ → ℕ) → List (PoolRow × ℕ) → Name → ℕ
-worth f entries p = elim (find (λ e. same_name e.0.name p) entries) [ Some e ↦ f e | None ↦ 0 ]
+-- what the first reserve of this name is worth, or nothing
+abbrev pub worth : (Reserve → ℕ) → List Reserve → Name → ℕ
+worth f es p = of_reserve f (find (λ e. same_name e.pool p) es)
 
 -- the sum of sums is the sum of both
 pub sum_by-add : {A : Type 0} (f g : A → ℕ) (xs : List A) → sum_by (λ x. f x + g x) xs ≡ sum_by f xs + sum_by g xs
 sum_by-add f g [] = refl
 sum_by-add f g (x ∷ xs) =
     omega (arith, sum_by-cons (λ y. f y + g y) x xs, sum_by-cons f x xs, sum_by-cons g x xs, sum_by-add f g xs)
+
+-- a sum over a list that is mapped is one over the list
+pub sum_by-map : {A B : Type 0} (f : B → ℕ) (g : A → B) (xs : List A) → sum_by f (map g xs) ≡ sum_by (λ x. f (g x)) xs
+sum_by-map f g [] = refl
+sum_by-map {A} f g (x ∷ xs) = omega (arith, sum_by-cons f (g x) (map g xs), sum_by-cons (λ (y : A). f (g y)) x xs, sum_by-map f g xs)
 
 -- nothing adds up to nothing
 pub sum_by-zero : {A : Type 0} (xs : List A) → sum_by (λ x. 0) xs ≡ 0
@@ -105,45 +115,26 @@ pub others_agree : (h k : Name → ℕ) (ps : List Name) → list_any (same_name
 others_agree h k [] free agree = refl
 others_agree h k (p ∷ ps) free agree = others_turn h k p ps (same_name general p) refl free agree (λ rest. others_agree h k ps rest agree)
 
--- sums over rows that are paired with numbers
-pub zip_names : (h : Name → ℕ) (rows : List PoolRow) (ns : List ℕ) → length ns ≡ length rows → sum_by (λ e. h e.0.name) (zip rows ns) ≡ sum_by h (names rows)
-zip_names h [] ns e = refl
-zip_names h (r ∷ rows) [] e = absurd (omega arith)
-zip_names h (r ∷ rows) (n ∷ ns) e =
-    let same : length ns ≡ length rows = omega arith in
-    omega (arith, sum_by-cons (λ (x : PoolRow × ℕ). h x.0.name) (r, n) (zip rows ns), sum_by-cons h r.name (names rows), zip_names h rows ns same)
+-- a reserve before others is not found by other names
+behind_turn : (f : Reserve → ℕ) (e : Reserve) (es : List Reserve) (p : Name) (ps : List Name) (b : Bool) → same_name e.pool p ≡ b
+    → list_any (same_name e.pool) (p ∷ ps) ≡ false
+    → (list_any (same_name e.pool) ps ≡ false → sum_by (worth f (e ∷ es)) ps ≡ sum_by (worth f es) ps)
+    → sum_by (worth f (e ∷ es)) (p ∷ ps) ≡ sum_by (worth f es) (p ∷ ps)
+behind_turn f e es p ps true is free behind = absurd (true≢false (rw is at free))
+behind_turn f e es p ps false is free behind =
+    let first : worth f (e ∷ es) p ≡ worth f es p = rw (is, worth) refl in
+    omega (arith, sum_by-cons (worth f (e ∷ es)) p ps, sum_by-cons (worth f es) p ps, first, behind (rw is at free))
 
-pub zip_numbers : (rows : List PoolRow) (ns : List ℕ) → length ns ≡ length rows → sum_by (λ e. e.1) (zip rows ns) ≡ sum ns
-zip_numbers [] [] e = refl
-zip_numbers [] (n ∷ ns) e = absurd (omega arith)
-zip_numbers (r ∷ rows) [] e = absurd (omega arith)
-zip_numbers (r ∷ rows) (n ∷ ns) e =
-    let same : length ns ≡ length rows = omega arith in
-    omega (arith, sum_by-cons (λ (x : PoolRow × ℕ). x.1) (r, n) (zip rows ns), sum_by-cons (λ (x : ℕ). x) n ns, zip_numbers rows ns same)
+behind_others : (f : Reserve → ℕ) (e : Reserve) (es : List Reserve) (ps : List Name) → list_any (same_name e.pool) ps ≡ false
+    → sum_by (worth f (e ∷ es)) ps ≡ sum_by (worth f es) ps
+behind_others f e es [] free = refl
+behind_others f e es (p ∷ ps) free = behind_turn f e es p ps (same_name e.pool p) refl free (behind_others f e es ps)
 
--- an entry before others is not found by other names
-behind_turn : (f : PoolRow × ℕ → ℕ) (e : PoolRow × ℕ) (entries : List (PoolRow × ℕ)) (p : Name) (ps : List Name) (b : Bool) → same_name e.0.name p ≡ b
-    → list_any (same_name e.0.name) (p ∷ ps) ≡ false
-    → (list_any (same_name e.0.name) ps ≡ false → sum_by (worth f (e ∷ entries)) ps ≡ sum_by (worth f entries) ps)
-    → sum_by (worth f (e ∷ entries)) (p ∷ ps) ≡ sum_by (worth f entries) (p ∷ ps)
-behind_turn f e entries p ps true is free behind = absurd (true≢false (rw is at free))
-behind_turn f e entries p ps false is free behind =
-    let first : worth f (e ∷ entries) p ≡ worth f entries p = rw (is, worth) refl in
-    omega (arith, sum_by-cons (worth f (e ∷ entries)) p ps, sum_by-cons (worth f entries) p ps, first, behind (rw is at free))
-
-behind_others : (f : PoolRow × ℕ → ℕ) (e : PoolRow × ℕ) (entries : List (PoolRow × ℕ)) (ps : List Name) → list_any (same_name e.0.name) ps ≡ false
-    → sum_by (worth f (e ∷ entries)) ps ≡ sum_by (worth f entries) ps
-behind_others f e entries [] free = refl
-behind_others f e entries (p ∷ ps) free = behind_turn f e entries p ps (same_name e.0.name p) refl free (behind_others f e entries ps)
-
--- by distinct names each entry is found once
-pub worth_of_all : (f : PoolRow × ℕ → ℕ) (rows : List PoolRow) (ns : List ℕ) → length ns ≡ length rows → are_distinct (names rows) ≡ true
-    → sum_by (worth f (zip rows ns)) (names rows) ≡ sum_by f (zip rows ns)
-worth_of_all f [] ns e distinct = refl
-worth_of_all f (r ∷ rows) [] e distinct = absurd (omega arith)
-worth_of_all f (r ∷ rows) (n ∷ ns) e distinct =
-    let parts = and_parts (not (list_any (same_name r.name) (names rows))) (are_distinct (names rows)) distinct in
-    let same : length ns ≡ length rows = omega arith in
-    let first : worth f ((r, n) ∷ zip rows ns) r.name ≡ f (r, n) = rw (same_name-refl r.name, worth) refl in
-    let others = behind_others f (r, n) (zip rows ns) (names rows) (not-true (list_any (same_name r.name) (names rows)) parts.0) in
-    omega (arith, sum_by-cons (worth f ((r, n) ∷ zip rows ns)) r.name (names rows), first, others, worth_of_all f rows ns same parts.1, sum_by-cons f (r, n) (zip rows ns))
+-- by distinct names each reserve is found once
+pub worth_of_all : (f : Reserve → ℕ) (es : List Reserve) → are_distinct (reserve_names es) ≡ true → sum_by (worth f es) (reserve_names es) ≡ sum_by f es
+worth_of_all f [] distinct = refl
+worth_of_all f (e ∷ es) distinct =
+    let parts = and_parts (not (list_any (same_name e.pool) (reserve_names es))) (are_distinct (reserve_names es)) distinct in
+    let first : worth f (e ∷ es) e.pool ≡ f e = rw (same_name-refl e.pool, worth) refl in
+    let others = behind_others f e es (reserve_names es) (not-true (list_any (same_name e.pool) (reserve_names es)) parts.0) in
+    omega (arith, sum_by-cons (worth f (e ∷ es)) e.pool (reserve_names es), first, others, worth_of_all f es parts.1, sum_by-cons f e es)
