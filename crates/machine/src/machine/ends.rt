@@ -89,7 +89,7 @@ impl Machine {
         requires leaves { MayLeave self.old.waiting w }
         ensures { self.new ≡ timed_out self.old w }
     {
-        let deadline = deadline(&self.definitions, &w);
+        let deadline = deadline(&self.definitions, &w).unwrap_or(w.queued.ms());
         self.end_as(w, End::TimedOut(deadline));
     }
 

@@ -8,7 +8,7 @@ ghost use Rattle.rm_rules.specs.Sound.{IsSound};
 
 use super::Machine;
 use accounts::Accounts;
-use budgets::{ask, cap, threshold};
+use budgets::{asked, cap, threshold};
 use rm_base::definitions::Definitions;
 use rm_base::name::Name;
 use rm_rules::readings::pool_row;
@@ -70,7 +70,7 @@ impl Room for Machine {
     ghost holdings = { holdings_of };
 
     fn judge(&self, pool: Name, user: Name, floor: u64) -> Judged {
-        let bytes = ask(&self.definitions, pool, user, floor);
+        let bytes = asked(&self.definitions, pool, user, floor);
         judged(&self.definitions, &self.accounts, pool, bytes)
     }
 }

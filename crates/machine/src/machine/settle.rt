@@ -4,7 +4,7 @@ ghost use Rattle.rm_base.specs.declared.limits.TheConstants.{SESSIONS_MOST, MEMO
 
 use super::Machine;
 use crate::sessions::set_phase;
-use budgets::ask;
+use budgets::asked;
 use rm_rules::state::{Phase, Runner, Waiter};
 
 impl Machine {
@@ -35,7 +35,7 @@ impl Machine {
         requires leaves { MayLeave self.old.waiting w }
         ensures { self.new ≡ admitted self.old w }
     {
-        let grant = ask(&self.definitions, w.pool, w.user, w.floor);
+        let grant = asked(&self.definitions, w.pool, w.user, w.floor);
         set_phase(&mut self.sessions, w.session, Phase::Running);
         self.waiting.leave(w.query);
         self.accounts.take(w.query, w.pool, grant);
