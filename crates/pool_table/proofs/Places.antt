@@ -1,12 +1,12 @@
 -- A row in its place.
-use Rattle.std.specs.Prelude.{◌≡◌, ℕ, suc, ◌+◌, ◌<◌, ◌≤◌, Bool, true, false, not, cond, List, [], ◌∷◌, ◌++◌, length, slice_set, Some, None, nat_lt, refl}
+use Rattle.std.specs.Prelude.{◌≡◌, ℕ, suc, ◌+◌, ◌<◌, ◌≤◌, Bool, true, false, not, cond, List, [], ◌∷◌, ◌++◌, length, slice_set, Some, None, refl}
 use Rattle.std.specs.List.{position, position_or_len}
 use Rattle.std.proofs.Common.{sym, ap, ◌∙◌, subst, arith}
 use Rattle.std.proofs.lemmas.List.{length_push}
-use Rattle.std.proofs.lemmas.Bool.Decides.{nat_tests}
 use Rattle.rm_base.specs.declared.rows.PoolRow.{PoolRow}
 use Rattle.rm_base.specs.Name.{same_name}
 use Rattle.rm_rules.specs.Acceptance.{with_row}
+use Rattle.rm_rules.proofs.Places.{position-within, position-is, position-past}
 
 -- where the pool is there, its row is set
 set-turn : (row r : PoolRow) (rs : List PoolRow) (b : Bool) (n : ℕ) → cond (not b) (1 + n) 0 < length (r ∷ rs)
@@ -33,31 +33,13 @@ with-added row [] past = refl
 with-added row (r ∷ rs) past = add-turn row r rs (same_name r.name row.name) (position_or_len (λ x. same_name x.name row.name) rs) past (with-added row rs)
 
 -- by the place that `position` gives
-below : (a b : ℕ) → nat_lt a b ≡ true → a < b
-below a b h = grind (arith, nat_tests)
-
-not_below : (a b : ℕ) → nat_lt a b ≡ false → b ≤ a
-not_below a b h = grind (arith, nat_tests)
-
-found : (b : Bool) (n i : ℕ) → cond b (Some n) None ≡ Some i → (b ≡ true) × (n ≡ i)
-found true n i h = (refl, cc)
-found false n i h = absurd (cc)
-
-missing : (b : Bool) (n : ℕ) → cond b (Some n) None ≡ None → b ≡ false
-missing true n h = absurd (cc)
-missing false n h = refl
-
 pub with-found : (row : PoolRow) (rs : List PoolRow) (i : ℕ) → position (λ r. same_name r.name row.name) rs ≡ Some i → (i < length rs) × (with_row row rs ≡ slice_set rs i row)
 with-found row rs i h =
-    let n : ℕ = position_or_len (λ r. same_name r.name row.name) rs in
-    let parts = found (nat_lt n (length rs)) n i h in
-    let within : n < length rs = below n (length rs) parts.0 in
-    subst (λ k. (k < length rs) × (with_row row rs ≡ slice_set rs k row)) parts.1 (within, with-set row rs within)
+    let within : position_or_len (λ r. same_name r.name row.name) rs < length rs = position-within (λ r. same_name r.name row.name) rs i h in
+    subst (λ k. (k < length rs) × (with_row row rs ≡ slice_set rs k row)) (position-is (λ r. same_name r.name row.name) rs i h) (within, with-set row rs within)
 
 pub with-missing : (row : PoolRow) (rs : List PoolRow) → position (λ r. same_name r.name row.name) rs ≡ None → with_row row rs ≡ rs ++ row ∷ []
-with-missing row rs h =
-    let n : ℕ = position_or_len (λ r. same_name r.name row.name) rs in
-    with-added row rs (not_below n (length rs) (missing (nat_lt n (length rs)) n h))
+with-missing row rs h = with-added row rs (position-past (λ r. same_name r.name row.name) rs h)
 
 pub room-for_more : (row : PoolRow) (rs : List PoolRow) (most : ℕ) → position (λ r. same_name r.name row.name) rs ≡ None → length (with_row row rs) ≤ most → length rs < most
 room-for_more row rs most h room = omega (arith, ap length (with-missing row rs h), length_push rs row)

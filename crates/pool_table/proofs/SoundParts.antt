@@ -1,10 +1,9 @@
 -- Soundness, from its parts and back.
-use Rattle.std.specs.Prelude.{◌≡◌, ℕ, ◌≤◌, ◌-◌, ◌*◌, Bool, true, false, ◌&&◌, nat_le, is_some, length, map}
+use Rattle.std.specs.Prelude.{◌≡◌, ◌-◌, ◌*◌, Bool, true, false, ◌&&◌, nat_le, is_some, length, map}
 use Rattle.std.specs.List.{list_all}
-use Rattle.std.proofs.Common.{sym, ◌∙◌, arith}
-use Rattle.std.proofs.lemmas.Bool.{leb-true, false≢true}
-use Rattle.std.proofs.lemmas.Bool.Decides.{nat_tests}
-use Rattle.rm_base.specs.declared.limits.TheConstants.{MEMORY_LEAST, MEMORY_MOST, TOTAL_LEAST, CORES_MOST, CHANGES_MOST, CHAIN_MOST, POOLS_MOST, USERS_MOST, ROLES_MOST, GRANTS_MOST}
+use Rattle.std.proofs.Common.{sym, ◌∙◌}
+use Rattle.std.proofs.lemmas.Bool.{leb-true, le-leb, false≢true}
+use Rattle.rm_base.specs.declared.limits.TheConstants.{MEMORY_LEAST, MEMORY_MOST, TOTAL_LEAST, GENERAL_PART, CORES_MOST, CHANGES_MOST, CHAIN_MOST, POOLS_MOST, USERS_MOST, ROLES_MOST, GRANTS_MOST}
 use Rattle.rm_base.specs.declared.definitions.Definitions.{Definitions}
 use Rattle.rm_base.specs.Name.{dbadmin}
 use Rattle.rm_rules.specs.Definitions.{total, reserved, user_called}
@@ -12,9 +11,6 @@ use Rattle.rm_rules.specs.Sound.{IsSound, begins_with_general, are_distinct, has
 use Rattle.rm_base.specs.Ranges.{passes_if_set, is_between, is_pool_in_range, is_user_in_range}
 use Rattle.rm_rules.proofs.Taken.{and_left, and_right, and_both}
 use Rattle.pool_table.specs.Soundness.{are_numbers_in_range, are_counts_in_range, are_values_in_range, are_names_right, is_total_right, are_links_right}
-
-le-true : (a b : ℕ) → a ≤ b → nat_le a b ≡ true
-le-true a b h = grind (arith, nat_tests)
 
 -- all the parts of sound definitions hold
 pub record HasParts (d : Definitions) : Type 0 where
@@ -27,11 +23,11 @@ pub record HasParts (d : Definitions) : Type 0 where
 
 pub parts-sound : (d : Definitions) → IsSound d → HasParts d
 parts-sound d s = record {
-  numbers = and_both _ _ s.memory (and_both _ _ s.cores (le-true d.changes CHANGES_MOST s.changes));
-  counts = and_both _ _ (le-true (length d.pools) POOLS_MOST s.pool_count) (and_both _ _ (le-true (length d.users) USERS_MOST s.user_count) (and_both _ _ (le-true (length d.roles) ROLES_MOST s.role_count) (le-true (length d.grants) GRANTS_MOST s.grant_count)));
+  numbers = and_both _ _ s.memory (and_both _ _ s.cores (le-leb d.changes CHANGES_MOST s.changes));
+  counts = and_both _ _ (le-leb (length d.pools) POOLS_MOST s.pool_count) (and_both _ _ (le-leb (length d.users) USERS_MOST s.user_count) (and_both _ _ (le-leb (length d.roles) ROLES_MOST s.role_count) (le-leb (length d.grants) GRANTS_MOST s.grant_count)));
   values = and_both _ _ s.pools_in_range (and_both _ _ s.users_in_range s.pools_within_max);
   names = and_both _ _ s.general_first (and_both _ _ s.dbadmin_there (and_both _ _ s.pools_distinct s.users_distinct));
-  totals = and_both _ _ (le-true TOTAL_LEAST (total d) s.total_least) (and_both _ _ (le-true (total d) d.memory s.total_most) (and_both _ _ (le-true (reserved d) (total d) s.reserved_most) (le-true (total d) (4 * (total d - reserved d)) s.quarter_left)));
+  totals = and_both _ _ (le-leb TOTAL_LEAST (total d) s.total_least) (and_both _ _ (le-leb (total d) d.memory s.total_most) (and_both _ _ (le-leb (reserved d) (total d) s.reserved_most) (le-leb (total d) (GENERAL_PART * (total d - reserved d)) s.quarter_left)));
   links = and_both _ _ s.chains_end (and_both _ _ s.user_pools_there (and_both _ _ s.role_pools_there (and_both _ _ s.grants_known s.grants_distinct)));
 }
 
@@ -66,7 +62,7 @@ sound-parts d p =
       total_least = leb-true TOTAL_LEAST (total d) (and_left (nat_le TOTAL_LEAST (total d)) _ p.totals);
       total_most = leb-true (total d) d.memory (and_left (nat_le (total d) d.memory) _ t1);
       reserved_most = leb-true (reserved d) (total d) (and_left (nat_le (reserved d) (total d)) _ t2);
-      quarter_left = leb-true (total d) (4 * (total d - reserved d)) (and_right (nat_le (reserved d) (total d)) _ t2);
+      quarter_left = leb-true (total d) (GENERAL_PART * (total d - reserved d)) (and_right (nat_le (reserved d) (total d)) _ t2);
       chains_end = and_left (list_all (λ r. chain_ends d.pools (CHAIN_MOST - 1) r.cascade) d.pools) _ p.links;
       user_pools_there = and_left (list_all (λ u. passes_if_set (has_pool d) u.pool) d.users) _ l1;
       role_pools_there = and_left (list_all (λ r. passes_if_set (has_pool d) r.pool) d.roles) _ l2;

@@ -1,7 +1,7 @@
 -- The parts of soundness, each as a test.
 use Rattle.std.specs.Prelude.{◌-◌, ◌*◌, Bool, ◌&&◌, nat_le, ◌++◌, is_some, length, map}
 use Rattle.std.specs.List.{list_all}
-use Rattle.rm_base.specs.declared.limits.TheConstants.{MEMORY_LEAST, MEMORY_MOST, TOTAL_LEAST, CORES_MOST, CHANGES_MOST, CHAIN_MOST, POOLS_MOST, USERS_MOST, ROLES_MOST, GRANTS_MOST}
+use Rattle.rm_base.specs.declared.limits.TheConstants.{MEMORY_LEAST, MEMORY_MOST, TOTAL_LEAST, GENERAL_PART, CORES_MOST, CHANGES_MOST, CHAIN_MOST, POOLS_MOST, USERS_MOST, ROLES_MOST, GRANTS_MOST}
 use Rattle.rm_base.specs.declared.definitions.Definitions.{Definitions}
 use Rattle.rm_base.specs.Name.{dbadmin}
 use Rattle.rm_rules.specs.Definitions.{total, reserved, user_called}
@@ -35,7 +35,7 @@ is_total_right d =
     nat_le TOTAL_LEAST (total d)
     && (nat_le (total d) d.memory
     && (nat_le (reserved d) (total d)
-    && nat_le (total d) (4 * (total d - reserved d))))
+    && nat_le (total d) (GENERAL_PART * (total d - reserved d))))
 
 -- what names a pool, a user or a role
 abbrev pub are_links_right : Definitions → Bool

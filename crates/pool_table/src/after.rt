@@ -6,11 +6,10 @@ ghost use Rattle.rm_rules.specs.Sound.{IsSound};
 ghost use Rattle.rm_base.specs.Ranges.{is_pool_in_range};
 ghost use Rattle.rm_rules.specs.Acceptance.{with_row, with_pool};
 
-use crate::rows::{reserved, total};
 use rm_base::definitions::Definitions;
 use rm_base::name::Name;
 use rm_base::rows::PoolRow;
-use rm_rules::rows::{pool_called, pool_row};
+use rm_rules::readings::{pool_called, pool_row, reserved, total, usable};
 
 pub fn called_after(rows: &[PoolRow], row: &PoolRow, name: Name) -> Option<PoolRow>
     ensures { result ≡ pool_called (with_row row.now rows.now) name }
@@ -22,6 +21,7 @@ pub fn called_after(rows: &[PoolRow], row: &PoolRow, name: Name) -> Option<PoolR
 }
 
 /// The total, in bytes.
+#[tactic(auto, using(rm_rules::proofs::Sizes::sound_memory_most))]
 pub fn total_after(definitions: &Definitions, row: &PoolRow) -> u64
     requires sound { IsSound definitions.now }
     requires in_range { IsTrue (is_pool_in_range row.now) }
@@ -29,7 +29,7 @@ pub fn total_after(definitions: &Definitions, row: &PoolRow) -> u64
     ensures most { result ≤ MEMORY_MOST }
 {
     if row.name.same(Name::general()) {
-        return row.max.unwrap_or(95 * definitions.memory / 100);
+        return row.max.unwrap_or(usable(definitions.memory));
     }
     total(definitions)
 }

@@ -12,7 +12,7 @@ use rm_base::definitions::Definitions;
 use rm_base::limits::POOLS_MOST;
 use rm_base::name::Name;
 use rm_base::rows::PoolRow;
-use rm_rules::rows::pool_called;
+use rm_rules::readings::pool_called;
 
 /// Whether a chain ends after at most so many pools, all of which are there.
 pub fn chain_ends(rows: &[PoolRow], next: Option<Name>, most: u32) -> bool

@@ -1,18 +1,21 @@
-//! Which statements are accepted, and what an accepted statement leaves. It takes no memory.
+//! Which statements are accepted, what an accepted statement leaves, and what the definitions give a user. It takes no
+//! memory.
 #![tactic(auto)]
 
 ghost use Rattle.std.specs.Prelude.{◌≡◌, ◌<◌, ◌≤◌, Ok, Err, Some, None, length, IsTrue, IsOk, IfErr, OnOk};
 ghost use Rattle.std.specs.List.{position};
 ghost use Rattle.rm_base.specs.declared.limits.TheConstants.{POOLS_MOST, CHANGES_MOST};
 ghost use Rattle.rm_base.specs.Name.{same_name};
+ghost use Rattle.rm_base.specs.Ranges.{is_statement_in_range};
 ghost use Rattle.rm_rules.specs.Sound.{IsSound};
-ghost use Rattle.rm_rules.specs.Acceptance.{IsWellFormed, is_pool_statement, with_row, with_pool, accepted};
+ghost use Rattle.rm_rules.specs.Acceptance.{is_judged, with_row, with_pool, accepted};
 
 mod after;
 mod chains;
 mod refusals;
 mod rows;
 mod soundness;
+mod users;
 
 use crate::refusals::{alter_refusal, create_refusal};
 use crate::rows::{altered_row, created_row};
@@ -23,12 +26,13 @@ use rm_base::rows::PoolRow;
 use rm_base::statement::Statement;
 use rm_base::tables::Pools;
 pub use soundness::sound;
+pub use users::{default_pool, usage};
 
 /// Whether a statement is accepted, or the first of the refusals that hold, in the order of their numbers.
 pub fn accept(definitions: &Definitions, statement: &Statement) -> Result<(), Refusal>
     requires sound { IsSound definitions.now }
-    requires formed { IsWellFormed statement.now }
-    requires judged { IsTrue (is_pool_statement statement.now) }
+    requires formed { IsTrue (is_statement_in_range statement.now) }
+    requires judged { IsTrue (is_judged statement.now) }
     ensures ok { OnOk result (IsOk (accepted definitions.now statement.now)) }
     ensures err { IfErr result (λ refusal. accepted definitions.now statement.now ≡ Err refusal) }
 {
@@ -41,15 +45,25 @@ pub fn accept(definitions: &Definitions, statement: &Statement) -> Result<(), Re
             let row = altered_row(definitions, *name, change);
             unless_refused(alter_refusal(definitions, *name, change, &row))
         }
-        _ => Ok(()),
+        Statement::DropPool(..)
+        | Statement::CreateUser(..)
+        | Statement::AlterUser(..)
+        | Statement::DropUser(..)
+        | Statement::CreateRole(..)
+        | Statement::AlterRole(..)
+        | Statement::DropRole(..)
+        | Statement::GrantUsage(..)
+        | Statement::RevokeUsage(..)
+        | Statement::GrantRole(..)
+        | Statement::RevokeRole(..) => Ok(()),
     }
 }
 
 /// Makes the change of an accepted statement.
 pub fn apply(definitions: &mut Definitions, statement: &Statement)
     requires sound { IsSound definitions.old }
-    requires formed { IsWellFormed statement.now }
-    requires judged { IsTrue (is_pool_statement statement.now) }
+    requires formed { IsTrue (is_statement_in_range statement.now) }
+    requires judged { IsTrue (is_judged statement.now) }
     requires accepted { IsOk (accepted definitions.old statement.now) }
     ensures changed { accepted definitions.old statement.now ≡ Ok definitions.new }
     ensures sound { IsSound definitions.new }
@@ -63,7 +77,17 @@ pub fn apply(definitions: &mut Definitions, statement: &Statement)
             let row = altered_row(definitions, *name, change);
             put_row(definitions, row);
         }
-        _ => {}
+        Statement::DropPool(..)
+        | Statement::CreateUser(..)
+        | Statement::AlterUser(..)
+        | Statement::DropUser(..)
+        | Statement::CreateRole(..)
+        | Statement::AlterRole(..)
+        | Statement::DropRole(..)
+        | Statement::GrantUsage(..)
+        | Statement::RevokeUsage(..)
+        | Statement::GrantRole(..)
+        | Statement::RevokeRole(..) => {}
     }
 }
 
@@ -104,6 +128,3 @@ fn put_row(definitions: &mut Definitions, row: PoolRow)
     put_pool(&mut definitions.pools, row);
     definitions.changes += 1;
 }
-
-#[cfg(test)]
-mod tests;

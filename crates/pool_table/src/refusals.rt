@@ -1,23 +1,37 @@
 //! What a statement on a pool is refused with, each number by itself, and the first of them.
 ghost use Rattle.std.specs.Prelude.{◌≡◌, Option, IsTrue};
+ghost use Rattle.rm_rules.specs.Refusals.{refused_if, first_refusal};
 ghost use Rattle.rm_rules.specs.Sound.{IsSound};
 ghost use Rattle.rm_base.specs.Ranges.{is_pool_in_range};
-ghost use Rattle.rm_rules.specs.Acceptance.{with_pool, refused_if, total_out_of_range, name_taken, pool_missing, general_reserves, max_below_memory, general_too_small, target_missing, cascade_loop, chain_too_long, pools_full, changes_full, outcome_refusal, create_refusal, alter_refusal};
+ghost use Rattle.rm_rules.specs.Acceptance.{with_pool, total_out_of_range, name_taken, pool_missing, general_reserves, max_below_memory, general_too_small, target_missing, cascade_loop, chain_too_long, pools_full, changes_full, outcome_refusal, create_refusal, alter_refusal};
 
 use crate::after::{called_after, reserved_after, total_after};
 use crate::chains::{is_on_chain, longest_through};
 use rm_base::definitions::Definitions;
-use rm_base::limits::{CHAIN_MOST, CHANGES_MOST, POOLS_MOST, TOTAL_LEAST};
+use rm_base::limits::{CHAIN_MOST, CHANGES_MOST, GENERAL_PART, POOLS_MOST, TOTAL_LEAST};
 use rm_base::name::Name;
 use rm_base::refusal::{Parameter, Refusal, TableKind};
 use rm_base::rows::PoolRow;
 use rm_base::statement::PoolChange;
-use rm_rules::rows::pool_called;
+use rm_rules::readings::pool_called;
 
 fn refused_if(holds: bool, refusal: Refusal) -> Option<Refusal>
     ensures { result ≡ refused_if holds refusal }
 {
     if holds { Some(refusal) } else { None }
+}
+
+/// The first refusal of these.
+fn first_refusal(refusals: &[Option<Refusal>]) -> Option<Refusal>
+    ensures { result ≡ first_refusal refusals.now }
+{
+    match refusals {
+        [] => None,
+        [first, rest @ ..] => match first {
+            None => first_refusal(rest),
+            Some(refusal) => Some(*refusal),
+        },
+    }
 }
 
 fn total_out_of_range(
@@ -78,8 +92,8 @@ fn general_too_small(definitions: &Definitions, row: &PoolRow) -> Option<Refusal
     let total = total_after(definitions, row);
     let left = total.saturating_sub(reserved_after(definitions, row));
     refused_if(
-        4 * left < total,
-        Refusal::GeneralTooSmall(left, (total + 3) / 4),
+        GENERAL_PART * left < total,
+        Refusal::GeneralTooSmall(left, total.div_ceil(GENERAL_PART)),
     )
 }
 
@@ -114,7 +128,7 @@ fn pools_full(definitions: &Definitions) -> Option<Refusal>
     ensures { result ≡ pools_full definitions.now }
 {
     refused_if(
-        POOLS_MOST <= definitions.pools.rows().len(),
+        POOLS_MOST <= definitions.pools.len(),
         Refusal::TableFull(TableKind::Pools, POOLS_MOST as u32),
     )
 }
@@ -133,11 +147,13 @@ fn outcome_refusal(definitions: &Definitions, row: &PoolRow) -> Option<Refusal>
     requires in_range { IsTrue (is_pool_in_range row.now) }
     ensures { result ≡ outcome_refusal (with_pool definitions.now row.now) row.now }
 {
-    max_below_memory(row.max, row.memory)
-        .or(general_too_small(definitions, row))
-        .or(target_missing(definitions, row))
-        .or(cascade_loop(definitions, row))
-        .or(chain_too_long(definitions, row))
+    first_refusal(&[
+        max_below_memory(row.max, row.memory),
+        general_too_small(definitions, row),
+        target_missing(definitions, row),
+        cascade_loop(definitions, row),
+        chain_too_long(definitions, row),
+    ])
 }
 
 /// Why a pool with this row is not created.
@@ -146,10 +162,12 @@ pub fn create_refusal(definitions: &Definitions, name: Name, row: &PoolRow) -> O
     requires in_range { IsTrue (is_pool_in_range row.now) }
     ensures { result ≡ create_refusal definitions.now name row.now }
 {
-    name_taken(definitions, name)
-        .or(outcome_refusal(definitions, row))
-        .or(pools_full(definitions))
-        .or(changes_full(definitions))
+    first_refusal(&[
+        name_taken(definitions, name),
+        outcome_refusal(definitions, row),
+        pools_full(definitions),
+        changes_full(definitions),
+    ])
 }
 
 /// Why a pool is not altered to this row.
@@ -163,9 +181,11 @@ pub fn alter_refusal(
     requires in_range { IsTrue (is_pool_in_range row.now) }
     ensures { result ≡ alter_refusal definitions.now name change.now row.now }
 {
-    total_out_of_range(definitions, name, change, row)
-        .or(pool_missing(definitions, name))
-        .or(general_reserves(name, change))
-        .or(outcome_refusal(definitions, row))
-        .or(changes_full(definitions))
+    first_refusal(&[
+        total_out_of_range(definitions, name, change, row),
+        pool_missing(definitions, name),
+        general_reserves(name, change),
+        outcome_refusal(definitions, row),
+        changes_full(definitions),
+    ])
 }

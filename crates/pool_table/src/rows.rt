@@ -1,39 +1,17 @@
 //! The row that a statement leaves of its pool.
 ghost use Rattle.std.specs.Prelude.{◌≡◌, ◌*◌, ◌≤◌, IsTrue, unwrap_or, option_map};
-ghost use Rattle.std.specs.List.{list_all};
-ghost use Rattle.rm_base.specs.declared.limits.TheConstants.{MEMORY_MOST, POOLS_MOST};
-ghost use Rattle.rm_rules.specs.Definitions.{pool_called, pool_row, total, reserved};
+ghost use Rattle.rm_base.specs.declared.limits.TheConstants.{MEMORY_MOST};
+ghost use Rattle.rm_rules.specs.Definitions.{pool_row};
 ghost use Rattle.rm_rules.specs.Sound.{IsSound};
 ghost use Rattle.rm_base.specs.Ranges.{is_pool_change_in_range, is_pool_in_range};
 ghost use Rattle.rm_rules.specs.Acceptance.{bytes_of, max_whole, changed_row, created_row, altered_row};
 
 use rm_base::definitions::{Definitions, default_pool_row};
+use rm_base::limits::PERCENT_MOST;
 use rm_base::name::Name;
 use rm_base::rows::PoolRow;
 use rm_base::statement::{PoolChange, Size};
-use rm_rules::rows::pool_row;
-
-/// The total, in bytes.
-#[tactic(auto, using(crate::proofs::Sizes::total_most))]
-pub fn total(definitions: &Definitions) -> u64
-    requires memory { definitions.now.memory ≤ MEMORY_MOST }
-    requires pools { IsTrue (list_all is_pool_in_range definitions.now.pools) }
-    ensures value { result ≡ total definitions.now }
-    ensures most { result ≤ MEMORY_MOST }
-{
-    pool_row(definitions, Name::general())
-        .max
-        .unwrap_or(95 * definitions.memory / 100)
-}
-
-/// What the pools reserve, in bytes.
-pub fn reserved(definitions: &Definitions) -> u64
-    requires { IsTrue (list_all is_pool_in_range definitions.now.pools) }
-    ensures value { result ≡ reserved definitions.now }
-    ensures most { result ≤ POOLS_MOST * MEMORY_MOST }
-{
-    definitions.pools.rows().iter().map(|r| r.memory).sum()
-}
+use rm_rules::readings::{pool_row, total};
 
 fn bytes_of(whole: u64, size: Size) -> u64
     requires { whole ≤ MEMORY_MOST }
@@ -41,7 +19,7 @@ fn bytes_of(whole: u64, size: Size) -> u64
 {
     match size {
         Size::Bytes(bytes) => bytes,
-        Size::Percent(percent) => u64::from(percent) * whole / 100,
+        Size::Percent(percent) => u64::from(percent) * whole / PERCENT_MOST,
     }
 }
 

@@ -9,16 +9,15 @@ ghost use Rattle.rm_base.specs.Ranges.{passes_if_set, is_between, is_priority, i
 ghost use Rattle.pool_table.specs.Soundness.{are_numbers_in_range, are_counts_in_range, are_values_in_range, are_names_right, is_total_right, are_links_right};
 
 use crate::chains::chain_ends;
-use crate::rows::{reserved, total};
 use rm_base::definitions::Definitions;
 use rm_base::limits::{
-    CHAIN_MOST, CHANGES_MOST, CONCURRENCY_MOST, CORES_MOST, GRANTS_MOST, MEMORY_LEAST, MEMORY_MOST,
-    POOLS_MOST, PRIORITY_MOST, ROLES_MOST, SPAN_MOST, THRESHOLD_SECONDS_MOST, TOTAL_LEAST,
-    USERS_MOST,
+    CHAIN_MOST, CHANGES_MOST, CONCURRENCY_MOST, CORES_MOST, GENERAL_PART, GRANTS_MOST,
+    MEMORY_LEAST, MEMORY_MOST, POOLS_MOST, PRIORITY_MOST, ROLES_MOST, SPAN_MOST,
+    THRESHOLD_SECONDS_MOST, TOTAL_LEAST, USERS_MOST,
 };
 use rm_base::name::Name;
 use rm_base::rows::{GrantRow, PoolRow, RoleRow, UserRow};
-use rm_rules::rows::{pool_called, role_called, user_called};
+use rm_rules::readings::{pool_called, reserved, role_called, total, user_called};
 
 /// Whether the definitions are sound: what every accepted statement keeps.
 pub fn sound(definitions: &Definitions) -> bool
@@ -42,10 +41,9 @@ fn are_numbers_in_range(definitions: &Definitions) -> bool
 fn are_counts_in_range(definitions: &Definitions) -> bool
     ensures { result ≡ are_counts_in_range definitions.now }
 {
-    definitions.pools.rows().len() <= POOLS_MOST
-        && (definitions.users.rows().len() <= USERS_MOST
-            && (definitions.roles.rows().len() <= ROLES_MOST
-                && definitions.grants.rows().len() <= GRANTS_MOST))
+    definitions.pools.len() <= POOLS_MOST
+        && (definitions.users.len() <= USERS_MOST
+            && (definitions.roles.len() <= ROLES_MOST && definitions.grants.len() <= GRANTS_MOST))
 }
 
 fn are_values_in_range(definitions: &Definitions) -> bool
@@ -75,7 +73,7 @@ fn is_total_right(definitions: &Definitions) -> bool
     let reserved = reserved(definitions);
     TOTAL_LEAST <= total
         && (total <= definitions.memory
-            && (reserved <= total && total <= 4 * total.saturating_sub(reserved)))
+            && (reserved <= total && total <= GENERAL_PART * total.saturating_sub(reserved)))
 }
 
 fn are_links_right(definitions: &Definitions) -> bool
@@ -141,25 +139,25 @@ fn is_within_bytes(bytes: Option<u64>) -> bool
     bytes.is_none_or(|n| n <= MEMORY_MOST)
 }
 
-pub fn is_concurrency(number: Option<u32>) -> bool
+fn is_concurrency(number: Option<u32>) -> bool
     ensures { result ≡ passes_if_set (is_between 1 CONCURRENCY_MOST) number }
 {
     number.is_none_or(|n| 1 <= n && n <= CONCURRENCY_MOST)
 }
 
-pub fn is_cap(ms: Option<u64>) -> bool
+fn is_cap(ms: Option<u64>) -> bool
     ensures { result ≡ passes_if_set (is_between 1 SPAN_MOST) ms }
 {
     ms.is_none_or(|n| 1 <= n && n <= SPAN_MOST)
 }
 
-pub fn is_timeout(ms: Option<u64>) -> bool
+fn is_timeout(ms: Option<u64>) -> bool
     ensures { result ≡ passes_if_set (λ n. nat_le n SPAN_MOST) ms }
 {
     ms.is_none_or(|n| n <= SPAN_MOST)
 }
 
-pub fn is_priority(priority: i32) -> bool
+fn is_priority(priority: i32) -> bool
     ensures { result ≡ is_priority priority }
 {
     -PRIORITY_MOST <= priority && priority <= PRIORITY_MOST

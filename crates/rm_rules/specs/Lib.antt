@@ -17,6 +17,7 @@ pub mod Settled
 pub mod Change
 pub mod Answers
 pub mod Step
+pub mod Replay
 pub mod Owed
 pub mod Healthy
 pub mod Conserved

@@ -1,0 +1,47 @@
+-- Histories of events.
+use Rattle.std.specs.Prelude.{◌≡◌, ℕ, Bool, true, false, ◌==◌, List, [], ◌∷◌, filter}
+use Rattle.rm_base.specs.declared.entry.Entry.{Entry}
+use Rattle.rm_base.specs.declared.event.Event.{Event}
+use Rattle.rm_base.specs.declared.event.Event.TheVariants.{Define, Open, SetPool, Submit, Poll, Finish}
+use Rattle.rm_base.specs.WellFormed.{IsWellFormed}
+use Rattle.rm_rules.specs.State.{State}
+use Rattle.rm_rules.specs.Acceptance.{is_judged}
+use Rattle.rm_rules.specs.Step.{step, made}
+
+-- the state that these entries leave
+abbrev pub replay : State → List Entry → State
+replay s [] = s
+replay s (e ∷ es) = replay (step s e.seat e.at e.event).state es
+
+-- some text spells a statement, and it is one of those that are judged so far
+abbrev pub IsFormed : Event → Type 0
+IsFormed (Define statement) = (is_judged statement ≡ true) × IsWellFormed statement
+IsFormed (Open user) = Unit {0}
+IsFormed (SetPool session pool) = Unit {0}
+IsFormed (Submit session floor) = Unit {0}
+IsFormed (Poll session) = Unit {0}
+IsFormed (Finish session) = Unit {0}
+
+-- each entry is just the one that its event makes at its place
+abbrev pub IsLegal : State → List Entry → Type 0
+IsLegal s [] = Unit {0}
+IsLegal s (e ∷ es) =
+    IsFormed e.event × (made s e.seat e.at e.event ≡ e ∷ []) × IsLegal (step s e.seat e.at e.event).state es
+
+-- the entries of one seat
+abbrev pub own_entries : ℕ → List Entry → List Entry
+own_entries seat entries = filter (λ e. e.seat == seat) entries
+
+-- an event that is a statement
+abbrev pub is_define : Event → Bool
+is_define (Define statement) = true
+is_define (Open user) = false
+is_define (SetPool session pool) = false
+is_define (Submit session floor) = false
+is_define (Poll session) = false
+is_define (Finish session) = false
+
+-- each statement comes from the first seat
+abbrev pub FromFirst : List Entry → Type 0
+FromFirst [] = Unit {0}
+FromFirst (e ∷ es) = (is_define e.event ≡ true → e.seat ≡ 0) × FromFirst es
