@@ -1,7 +1,6 @@
 -- The bytes of a state, and what a query that begins or ends to run does to use, debts and GENERAL's use.
 use Rattle.std.proofs.Common.{◌≡◌, ℕ, ◌+◌, ◌-◌, ◌≤◌, Bool, true, false, not, cond, List, [], ◌∷◌, ◌++◌, length, Some, find, refl, sym, ap, ◌∙◌, subst, arith, sum_by, min, map}
 use Rattle.std.specs.List.{list_all, list_any}
-use Rattle.std.proofs.lemmas.Bool.{false≢true}
 use Rattle.std.proofs.lemmas.List.Sums.{sum_by-cons, sum_by_push}
 use Rattle.rm_base.specs.declared.rows.PoolRow.{PoolRow}
 use Rattle.rm_base.specs.declared.name.Name.{Name}
@@ -12,7 +11,7 @@ use Rattle.rm_rules.specs.declared.state.Reserve.{Reserve}
 use Rattle.rm_rules.specs.declared.state.Runner.{Runner}
 use Rattle.rm_rules.specs.Definitions.{user_pools}
 use Rattle.rm_rules.specs.State.{State}
-use Rattle.rm_rules.specs.Holdings.{Holdings, holding, holdings, reserves_of, holdings_of}
+use Rattle.rm_rules.specs.Holdings.{Holdings, holdings, reserves_of, holdings_of}
 use Rattle.rm_rules.specs.Accounting.{held_in, used, debt, unused, of_reserve, lent, need}
 use Rattle.rm_rules.specs.Sound.{IsSound, has_pool, are_distinct}
 use Rattle.rm_rules.specs.Healthy.{AreSized, AreThere}
@@ -61,19 +60,24 @@ holdings-all test (r ∷ rs) all =
     let rest = holdings-all test rs (and_right (test r.pool) (list_all (λ x. test x.pool) rs) all) in
     and_both (test r.pool) _ (and_left (test r.pool) (list_all (λ x. test x.pool) rs) all) rest
 
+-- a pool is there just where it is named
+names-all : (s : State) → IsSound s.definitions → AreSized s.definitions s.actual s.counters
+    → names s.definitions.pools ≡ general ∷ reserve_names (holdings_of s).reserves
+names-all s sound sized =
+    let pools = s.definitions.pools in
+    pool_names pools sound.general_first ∙ ap (λ l. general ∷ l) (sym (reserve_names-of (user_pools pools) s.actual sized.sizes))
+
+pub named-pool : (s : State) → IsSound s.definitions → AreSized s.definitions s.actual s.counters
+    → (n : Name) → has_pool s.definitions n ≡ list_any (same_name n) (general ∷ reserve_names (holdings_of s).reserves)
+named-pool s sound sized n = is_called s.definitions.pools n ∙ ap (list_any (same_name n)) (names-all s sound sized)
+
 -- the bytes of a state with sound definitions are named
 pub named : (s : State) → IsSound s.definitions → AreSized s.definitions s.actual s.counters → AreThere s.definitions s.sessions s.waiting s.running → AreNamed (holdings_of s)
-named s sound sized there =
-    let d = s.definitions in
-    let same : names d.pools ≡ general ∷ reserve_names (holdings_of s).reserves =
-    pool_names d.pools sound.general_first ∙ ap (λ l. general ∷ l) (sym (reserve_names-of (user_pools d.pools) s.actual sized.sizes)) in
-    let is : (n : Name) → has_pool d n ≡ list_any (same_name n) (general ∷ reserve_names (holdings_of s).reserves) =
-    λ n. is_called d.pools n ∙ ap (list_any (same_name n)) same in
-    record {
-      distinct = subst (λ l. are_distinct l ≡ true) same sound.pools_distinct;
-      known = holdings-all (λ n. list_any (same_name n) (general ∷ reserve_names (holdings_of s).reserves)) s.running
-          ((λ i. list_all (λ (r : Runner). sym (is r.pool) i) s.running) ∙ there.runs);
-    }
+named s sound sized there = record {
+  distinct = subst (λ l. are_distinct l ≡ true) (names-all s sound sized) sound.pools_distinct;
+  known = holdings-all (λ n. list_any (same_name n) (general ∷ reserve_names (holdings_of s).reserves)) s.running
+      ((λ i. list_all (λ (r : Runner). sym (named-pool s sound sized r.pool) i) s.running) ∙ there.runs);
+}
 
 -- the bytes with one grant more
 abbrev pub with_grant : Holdings → Holding → Holdings

@@ -11,4 +11,7 @@ pub mod Bytes
 pub mod Queue
 pub mod Conserved
 pub mod Shuffling
+pub mod Defining
 pub mod Covering
+pub mod Rests
+pub mod Idle

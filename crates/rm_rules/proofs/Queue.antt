@@ -1,13 +1,18 @@
 -- What is known of the waiting query that is admitted.
-use Rattle.std.proofs.Common.{◌≡◌, Bool, true, false, ◌||◌, cond, List, [], ◌∷◌, ◌++◌, Some, None, refl, sym, ap, ◌∙◌}
+use Rattle.std.proofs.Common.{◌≡◌, ℕ, ◌≤◌, Bool, true, false, ◌&&◌, ◌||◌, cond, eqb, leb, arith, List, [], ◌∷◌, ◌++◌, Some, None, refl, sym, ap, ◌∙◌}
 use Rattle.std.specs.List.{find, list_any}
 use Rattle.std.specs.Int.Signed.{lt_z}
+use Rattle.std.proofs.lemmas.Bool.Decides.{nat_tests}
 use Rattle.rm_base.specs.declared.definitions.Definitions.{Definitions}
-use Rattle.rm_base.specs.Name.{same_name}
+use Rattle.rm_base.specs.Name.{same_name, general}
 use Rattle.rm_rules.specs.declared.state.Waiter.{Waiter}
 use Rattle.rm_rules.specs.State.{State}
 use Rattle.rm_rules.specs.Holdings.{Holdings, holdings_of}
-use Rattle.rm_rules.specs.Admission.{heads_behind, heads, priority_of, put_in_order, in_queue_order, first_among, first_entitled, judged_for, is_entitled, is_blocked}
+use Rattle.rm_rules.specs.Definitions.{pool_row}
+use Rattle.rm_rules.specs.Budget.{threshold}
+use Rattle.rm_rules.specs.Accounting.{lent, free, need}
+use Rattle.rm_rules.specs.Fit.{poolfit}
+use Rattle.rm_rules.specs.Admission.{ask_of, heads_behind, heads, priority_of, put_in_order, in_queue_order, first_among, first_entitled, judged_for, is_entitled, is_blocked}
 use Rattle.rm_rules.proofs.Taken.{and_left}
 
 -- the query is one of these
@@ -91,3 +96,10 @@ found-turn test x w ws false found rest = further w x ws (rest found)
 pub found_among : (test : Waiter → Bool) (w : Waiter) (ws : List Waiter) → find test ws ≡ Some w → IsAmong w ws
 found_among test w [] found = let none : None ≡ Some w = found in absurd (cc)
 found_among test w (x ∷ ws) found = found-turn test x w ws (test x) found (found_among test w ws)
+
+-- what fits needs no more than is free
+enough-turn : (p : Bool) (n l t f : ℕ) → (p && (eqb n 0 || (leb l t && leb n f))) ≡ true → n ≤ f
+enough-turn p n l t f h = grind (arith, nat_tests)
+
+pub enough : (d : Definitions) (h : Holdings) (w : Waiter) → (judged_for d h w).fits ≡ true → need h w.pool (ask_of d w) ≤ free h
+enough d h w fits = enough-turn (poolfit d h w.pool (ask_of d w)) (need h w.pool (ask_of d w)) (lent h) (threshold d (pool_row d general)) (free h) fits
