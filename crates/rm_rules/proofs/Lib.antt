@@ -13,5 +13,16 @@ pub mod Conserved
 pub mod Shuffling
 pub mod Defining
 pub mod Covering
+pub mod Changed
+pub mod Phases
+pub mod Moving
+pub mod Admitting
+pub mod Ending
+pub mod Settling
+pub mod Changing
+pub mod Keeping
+pub mod Answering
+pub mod Stepping
+pub mod Laws
 pub mod Rests
 pub mod Idle
