@@ -1,5 +1,5 @@
 pub mod Sums
-pub mod Named
+pub mod Places
+pub mod Turns
 pub mod Keeping
 pub mod Seen
-pub mod Standing

@@ -1,3 +1,3 @@
 pub mod Accounts
-pub mod Bytes
 pub mod Kept
+pub mod Sizes

@@ -3,10 +3,6 @@
 
 mod bytes;
 mod holdings;
-pub mod laws;
 mod sizes;
 
-pub use crate::holdings::{Accounts, Grant};
-
-#[cfg(test)]
-mod tests;
+pub use crate::holdings::Accounts;

@@ -1,104 +1,121 @@
-//! The shuffle of the pools' actual sizes.
-ghost use Rattle.std.specs.Prelude.{◌≡◌, ◌<◌, ◌+◌, ◌-◌, ◌^◌, length, map, sum, max};
-ghost use Rattle.std.specs.List.{zip};
+//! The reserves of the pools, and the shuffle of their sizes.
+ghost use Rattle.std.specs.Prelude.{◌≡◌, ◌<◌, ◌≤◌, ◌+◌, ◌-◌, ◌^◌, length, map, IfOk};
+ghost use Rattle.rm_base.specs.declared.limits.TheConstants.{POOLS_MOST};
+ghost use Rattle.rm_rules.specs.Definitions.{user_pools};
+ghost use Rattle.rm_rules.specs.Sound.{IsSound};
+ghost use Rattle.rm_rules.specs.Holdings.{reserves_of};
 ghost use Rattle.rm_rules.specs.Accounting.{debt};
-ghost use Rattle.rm_rules.specs.Shuffle.{fallen_size, growth, grown_sizes};
-ghost use Rattle.accounts.specs.Accounts.{runners};
-ghost use Rattle.accounts.specs.Bytes.{held, kept_bytes, fallen_sizes};
+ghost use Rattle.rm_rules.specs.Shuffle.{grown_reserves};
+ghost use Rattle.accounts.specs.Accounts.{names_in, names_of};
+ghost use Rattle.accounts.specs.Sizes.{held, fallen_to, growth_to, fallen_reserves};
 
-use crate::bytes::{debt, lent, used};
-use crate::holdings::Grant;
-use rm_base::name::Name;
+use crate::bytes::{debt, own};
+use rm_base::bounded::Bounded;
+use rm_base::definitions::Definitions;
+use rm_base::limits::POOLS_MOST;
 use rm_base::rows::PoolRow;
+use rm_rules::state::{Holding, Reserve};
+use std::alloc::{AllocError, Global};
+
+/// All pools but GENERAL.
+fn user_pools(pools: &[PoolRow]) -> &[PoolRow]
+    ensures rows { result.now ≡ user_pools pools.now }
+    ensures few { length result.now ≤ length pools.now }
+{
+    match pools {
+        [] => pools,
+        [_, rest @ ..] => rest,
+    }
+}
+
+/// Each pool but GENERAL, at its MEMORYSIZE.
+pub fn first_reserves(
+    alloc: Global,
+    pools: &[PoolRow],
+) -> Result<Bounded<Reserve, POOLS_MOST>, AllocError>
+    requires { length pools.now ≤ POOLS_MOST }
+    ensures { IfOk result (λ reserves. reserves ≡ reserves_of (user_pools pools.now) (map (λ r. r.memory) (user_pools pools.now))) }
+{
+    let mut reserves = Bounded::new(alloc)?;
+    for row in user_pools(pools) {
+        reserves.add(Reserve {
+            pool: row.name,
+            size: row.memory,
+        });
+    }
+    Ok(reserves)
+}
 
 /// What a pool above its MEMORYSIZE falls to: to it, or to the own bytes that it uses where these are more.
-fn fallen_size(grants: &[Grant], row: &PoolRow, size: u64) -> u64
+fn fallen_to(memory: u64, grants: &[Holding], e: &Reserve) -> u64
     requires { held grants.now < 2 ^ 64 }
-    ensures { result ≡ fallen_size (runners grants.now) (row.now, size) }
+    ensures { result ≡ fallen_to memory grants.now e.now }
 {
-    if row.memory < size {
-        row.memory.max(used(grants, row.name).min(size))
+    if memory < e.size {
+        memory.max(own(grants, e))
     } else {
-        size
+        e.size
     }
 }
 
 /// Pools above their MEMORYSIZE fall.
-fn fall(grants: &[Grant], rows: &[PoolRow], actual: &mut [u64])
+pub fn fall(
+    definitions: &Definitions,
+    grants: &[Holding],
+    reserves: &mut Bounded<Reserve, POOLS_MOST>,
+)
+    requires sound { IsSound definitions.now }
+    requires same_pools { names_in definitions.now ≡ names_of reserves.old }
     requires granted { held grants.now < 2 ^ 64 }
-    requires sizes { length actual.old ≡ length rows.now }
-    ensures { actual.new ≡ fallen_sizes (runners grants.now) rows.now actual.old }
+    ensures { reserves.new ≡ fallen_reserves definitions.now grants.now reserves.old }
 {
-    for (i, row) in rows.iter().enumerate() {
-        actual[i] = fallen_size(grants, row, actual[i]);
+    for (i, row) in user_pools(definitions.pools.rows()).iter().enumerate() {
+        let e = reserves.rows()[i];
+        let size = fallen_to(row.memory, grants, &e);
+        reserves.set(i, Reserve { pool: e.pool, size });
     }
 }
 
 /// By how much a pool below its MEMORYSIZE grows: within what it has borrowed and what is free.
-fn growth(grants: &[Grant], row: &PoolRow, size: u64, spare: u64) -> u64
+fn growth_to(memory: u64, grants: &[Holding], e: &Reserve, spare: u64) -> u64
     requires granted { held grants.now < 2 ^ 63 }
     requires spare { spare < 2 ^ 63 }
-    ensures value { result ≡ growth (runners grants.now) spare (row.now, size) }
-    ensures fits { size + result < 2 ^ 64 }
+    ensures value { result ≡ growth_to memory grants.now spare e.now }
+    ensures fits { e.now.size + result < 2 ^ 64 }
 {
-    let wanted = row.memory.saturating_sub(size);
-    wanted.min(debt(grants, row.name, size) + spare)
+    let wanted = memory.saturating_sub(e.size);
+    wanted.min(debt(grants, e) + spare)
 }
 
 /// What is still free after a pool grew by so much: it paid back its debt first.
-fn spare_after(grants: &[Grant], row: &PoolRow, size: u64, more: u64, spare: u64) -> u64
+fn spare_after(grants: &[Holding], e: &Reserve, more: u64, spare: u64) -> u64
     requires granted { held grants.now < 2 ^ 63 }
-    ensures { result ≡ spare - (more - debt (runners grants.now) (row.now, size)) }
+    ensures { result ≡ spare - (more - debt grants.now e.now) }
 {
-    spare.saturating_sub(more.saturating_sub(debt(grants, row.name, size)))
+    spare.saturating_sub(more.saturating_sub(debt(grants, e)))
 }
 
 /// Pools below their MEMORYSIZE grow, one after the other, while so much is free.
-fn grow(grants: &[Grant], rows: &[PoolRow], actual: &mut [u64], free: u64)
+pub fn grow(
+    definitions: &Definitions,
+    grants: &[Holding],
+    reserves: &mut Bounded<Reserve, POOLS_MOST>,
+    free: u64,
+)
+    requires sound { IsSound definitions.now }
+    requires same_pools { names_in definitions.now ≡ names_of reserves.old }
     requires granted { held grants.now < 2 ^ 63 }
-    requires sizes { length actual.old ≡ length rows.now }
     requires free { free < 2 ^ 63 }
-    ensures { actual.new ≡ grown_sizes (runners grants.now) free (zip rows.now actual.old) }
+    ensures { reserves.new ≡ grown_reserves definitions.now grants.now free reserves.old }
 {
     let mut spare = free;
-    for (i, row) in rows.iter().enumerate() {
-        let size = actual[i];
-        let more = growth(grants, row, size, spare);
-        spare = spare_after(grants, row, size, more, spare);
-        actual[i] = size + more;
+    for (i, row) in user_pools(definitions.pools.rows()).iter().enumerate() {
+        let e = reserves.rows()[i];
+        let more = growth_to(row.memory, grants, &e, spare);
+        spare = spare_after(grants, &e, more, spare);
+        reserves.set(i, Reserve {
+            pool: e.pool,
+            size: e.size + more,
+        });
     }
-}
-
-/// What the pools reserve.
-pub fn reserved(actual: &[u64]) -> u64
-    requires { sum actual.now < 2 ^ 64 }
-    ensures { result ≡ sum actual.now }
-{
-    actual.iter().sum()
-}
-
-/// Actual sizes follow the declared ones as far as bytes in use let them. The memory in force comes out: the total, or
-/// what is still reserved or lent, where that is more.
-pub fn shuffle(
-    grants: &[Grant],
-    names: &[Name],
-    rows: &[PoolRow],
-    actual: &mut [u64],
-    total: u64,
-) -> u64
-    requires granted { held grants.now < 2 ^ 63 }
-    requires sizes { length actual.old ≡ length rows.now }
-    requires named { map (λ r. r.name) rows.now ≡ names.now }
-    requires fits { kept_bytes names.now actual.old (runners grants.now) < 2 ^ 63 }
-    requires total { total < 2 ^ 63 }
-    ensures force { let fell = fallen_sizes (runners grants.now) rows.now actual.old in
-        result ≡ max total (kept_bytes names.now fell (runners grants.now)) }
-    ensures sizes { let fell = fallen_sizes (runners grants.now) rows.now actual.old in
-        actual.new ≡ grown_sizes (runners grants.now) (result - kept_bytes names.now fell (runners grants.now)) (zip rows.now fell) }
-{
-    fall(grants, rows, actual);
-    let kept = reserved(actual) + lent(names, actual, grants);
-    let force = total.max(kept);
-    grow(grants, rows, actual, force - kept);
-    force
 }

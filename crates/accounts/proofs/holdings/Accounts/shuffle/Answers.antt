@@ -1,36 +1,71 @@
-use Rattle.std.proofs.Common.{◌≡◌, ◌∙◌, ap, sym, subst, List, ℕ, length, arith}
-use Rattle.std.proofs.lemmas.List.{with_items_is}
-use Rattle.rm_base.specs.declared.rows.PoolRow.{PoolRow}
-use Rattle.rm_rules.specs.Definitions.{user_pools}
+use Rattle.std.proofs.Common.{◌≡◌, ◌+◌, max, ℕ, List, sum_by, sym, ap, subst, ◌∙◌, arith}
+use Rattle.rm_base.specs.Name.{general}
+use Rattle.rm_rules.specs.declared.state.Reserve.{Reserve}
+use Rattle.rm_rules.specs.Holdings.{Holdings}
+use Rattle.rm_rules.specs.Accounting.{used, debt, kept_back}
+use Rattle.rm_rules.proofs.Shuffling.{fallen-names}
+use Rattle.accounts.specs.Accounts.{names_of}
 use Rattle.accounts.specs.Kept.{IsKept, seen}
-use Rattle.accounts.proofs.Keeping.{kept_shuffled}
-use Rattle.accounts.proofs.Seen.{kept-seen, shuffled-call, shuffled-seen}
+use Rattle.accounts.proofs.Keeping.{fallen-fits, kept_shuffled}
+use Rattle.accounts.proofs.Seen.{IsShuffle, shuffled-seen}
 use Rattle.accounts.proofs.holdings.Accounts.shuffle.Goals as goal
 
-pub shuffle-self-inside-requires-clause-fits : goal.shuffle-self-inside-requires-clause-fits
-shuffle-self-inside-requires-clause-fits c =
-    kept-seen c.deref-2.result.now c.deref_mut.result.now c.deref.result.now c.self.inside (record { names = c.deref-2.ensures.value; actual = c.deref_mut.ensures.value; grants = c.deref.ensures.value }) c.self.invariant.kept
+pub kept_back-kept_back-requires : goal.kept_back-kept_back-requires
+kept_back-kept_back-requires c =
+    let fits = fallen-fits c.args.definitions.now (seen c.self.inside) c.rows-grants.result.now c.fall.new.reserves c.requires.sound c.self.invariant c.rows-grants.ensures.rows c.fall.ensures in
+    omega (arith, fits, ap kept_back c.rows.ensures.rows)
+
+pub lent-lent-requires-clause-fits : goal.lent-lent-requires-clause-fits
+lent-lent-requires-clause-fits c =
+    let grants = c.rows-grants.result.now in
+    let fits = fallen-fits c.args.definitions.now (seen c.self.inside) grants c.fall.new.reserves c.requires.sound c.self.invariant c.rows-grants.ensures.rows c.fall.ensures in
+    omega (arith, fits, ap (λ (es : List Reserve). sum_by (debt grants) es) c.rows-2.ensures.rows)
+
+pub overflow_add-kept_back : goal.overflow_add-kept_back
+overflow_add-kept_back c =
+    let grants = c.rows-grants.result.now in
+    let fits = fallen-fits c.args.definitions.now (seen c.self.inside) grants c.fall.new.reserves c.requires.sound c.self.invariant c.rows-grants.ensures.rows c.fall.ensures in
+    omega (
+      arith,
+      fits,
+      c.kept_back-kept_back.ensures,
+      ap kept_back c.rows.ensures.rows,
+      c.lent-lent.ensures,
+      ap (λ (es : List Reserve). sum_by (debt grants) es) c.rows-2.ensures.rows,
+    )
+
+pub grow-requires-clause-same_pools : goal.grow-requires-clause-same_pools
+grow-requires-clause-same_pools c =
+    c.requires.same_pools
+    ∙ ap (λ (h : Holdings). names_of h.reserves) (sym c.self.view_is)
+    ∙ sym (fallen-names c.args.definitions.now c.rows-grants.result.now c.self.inside.reserves)
+    ∙ sym (ap names_of c.fall.ensures)
 
 pub invariant_of-self : goal.invariant_of-self
 invariant_of-self c =
     let d = c.args.definitions.now in
-    let rows = c.user_pools-rows.ensures.rows ∙ ap (λ (rs : List PoolRow). user_pools rs) c.rows.ensures.rows in
-    let call = shuffled-call d c.user_pools-rows.result.now c.self.inside c.deref-2.result.now c.deref_mut.result.now c.deref.result.now c.total-total.result c.shuffle-self-inside.result c.shuffle-self-inside.new.actual (record { names = c.deref-2.ensures.value; actual = c.deref_mut.ensures.value; grants = c.deref.ensures.value }) c.total-total.ensures.value c.shuffle-self-inside.ensures.force c.shuffle-self-inside.ensures.sizes in
-    let written : length c.shuffle-self-inside.new.actual ≡ c.self.inside.actual.len = omega (arith, c.shuffle-self-inside.auto.actual, c.deref_mut.ensures.len) in
-    let sizes = ap (λ (ns : List ℕ). record (seen c.self.inside) { in_force = c.shuffle-self-inside.result; actual = ns }) (with_items_is c.self.inside.actual c.shuffle-self-inside.new.actual written) in
-    let same = sizes ∙ shuffled-seen d c.user_pools-rows.result.now c.self.inside c.args.self.now c.shuffle-self-inside.result c.shuffle-self-inside.new.actual c.self.view_is c.requires.same_pools rows call in
-    record {
-      names = c.self.invariant.names;
-      actual = c.self.invariant.actual;
-      grants = c.self.invariant.grants;
-      kept = subst IsKept (sym same) (kept_shuffled d c.args.self.now c.requires.sound c.requires.same_pools (subst IsKept c.self.view_is c.self.invariant.kept));
-    }
+    let grants = c.rows-grants.result.now in
+    let steps : IsShuffle d (seen c.self.inside) grants c.fall.new.reserves c.grow.new.reserves c.kept_back-kept_back.result c.lent-lent.result c.max-self-inside.result = record {
+      running = c.rows-grants.ensures.rows;
+      falls = c.fall.ensures;
+      reserved = c.kept_back-kept_back.ensures ∙ ap kept_back c.rows.ensures.rows;
+      lent = c.lent-lent.ensures ∙ ap (λ (es : List Reserve). used general grants + sum_by (debt grants) es) c.rows-2.ensures.rows;
+      force_is = c.max-self-inside.ensures ∙ ap (λ (n : ℕ). max n (c.kept_back-kept_back.result + c.lent-lent.result)) c.total.ensures.value;
+      grows = c.grow.ensures;
+    } in
+    let same = shuffled-seen d (seen c.self.inside) c.args.self.now grants c.fall.new.reserves c.grow.new.reserves c.kept_back-kept_back.result c.lent-lent.result c.max-self-inside.result c.self.view_is steps in
+    subst IsKept (sym same) (kept_shuffled d c.args.self.now c.requires.sound (subst IsKept c.self.view_is c.self.invariant))
 
 pub returns : goal.returns
 returns c =
     let d = c.args.definitions.now in
-    let rows = c.user_pools-rows.ensures.rows ∙ ap (λ (rs : List PoolRow). user_pools rs) c.rows.ensures.rows in
-    let call = shuffled-call d c.user_pools-rows.result.now c.self.inside c.deref-2.result.now c.deref_mut.result.now c.deref.result.now c.total-total.result c.shuffle-self-inside.result c.shuffle-self-inside.new.actual (record { names = c.deref-2.ensures.value; actual = c.deref_mut.ensures.value; grants = c.deref.ensures.value }) c.total-total.ensures.value c.shuffle-self-inside.ensures.force c.shuffle-self-inside.ensures.sizes in
-    let written : length c.shuffle-self-inside.new.actual ≡ c.self.inside.actual.len = omega (arith, c.shuffle-self-inside.auto.actual, c.deref_mut.ensures.len) in
-    let sizes = ap (λ (ns : List ℕ). record (seen c.self.inside) { in_force = c.shuffle-self-inside.result; actual = ns }) (with_items_is c.self.inside.actual c.shuffle-self-inside.new.actual written) in
-    sizes ∙ shuffled-seen d c.user_pools-rows.result.now c.self.inside c.args.self.now c.shuffle-self-inside.result c.shuffle-self-inside.new.actual c.self.view_is c.requires.same_pools rows call
+    let grants = c.rows-grants.result.now in
+    let steps : IsShuffle d (seen c.self.inside) grants c.fall.new.reserves c.grow.new.reserves c.kept_back-kept_back.result c.lent-lent.result c.max-self-inside.result = record {
+      running = c.rows-grants.ensures.rows;
+      falls = c.fall.ensures;
+      reserved = c.kept_back-kept_back.ensures ∙ ap kept_back c.rows.ensures.rows;
+      lent = c.lent-lent.ensures ∙ ap (λ (es : List Reserve). used general grants + sum_by (debt grants) es) c.rows-2.ensures.rows;
+      force_is = c.max-self-inside.ensures ∙ ap (λ (n : ℕ). max n (c.kept_back-kept_back.result + c.lent-lent.result)) c.total.ensures.value;
+      grows = c.grow.ensures;
+    } in
+    shuffled-seen d (seen c.self.inside) c.args.self.now grants c.fall.new.reserves c.grow.new.reserves c.kept_back-kept_back.result c.lent-lent.result c.max-self-inside.result c.self.view_is steps
