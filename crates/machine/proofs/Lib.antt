@@ -1,0 +1,9 @@
+pub mod Places
+pub mod Running
+pub mod Inside
+pub mod Defining
+pub mod Looping
+pub mod Settling
+pub mod Entering
+pub mod Looking
+pub mod Keeping
