@@ -58,7 +58,7 @@ found-own (r ∷ rs) distinct = (
   found-behind r rs rs (apart r.name (names rs) distinct) (found-own rs (apart-rest r.name (names rs) distinct)),
 )
 
-found-user : (pools : List PoolRow) → are_distinct (names pools) ≡ true → AreFound (pool_called pools) (user_pools pools)
+pub found-user : (pools : List PoolRow) → are_distinct (names pools) ≡ true → AreFound (pool_called pools) (user_pools pools)
 found-user [] distinct = tt
 found-user (r ∷ rs) distinct = (found-own (r ∷ rs) distinct).1
 

@@ -26,3 +26,5 @@ pub mod Stepping
 pub mod Laws
 pub mod Rests
 pub mod Idle
+pub mod There
+pub mod SettledLaws

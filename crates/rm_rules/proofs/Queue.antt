@@ -1,19 +1,20 @@
 -- What is known of the waiting query that is admitted.
-use Rattle.std.proofs.Common.{◌≡◌, ℕ, ◌≤◌, Bool, true, false, ◌&&◌, ◌||◌, cond, eqb, leb, arith, List, [], ◌∷◌, ◌++◌, Some, None, refl, sym, ap, ◌∙◌}
+use Rattle.std.proofs.Common.{◌≡◌, ℕ, ◌≤◌, Bool, true, false, ◌&&◌, ◌||◌, ◌+◌, cond, eqb, leb, arith, List, [], ◌∷◌, ◌++◌, length, Some, None, refl, sym, ap, ◌∙◌, subst, count_by}
 use Rattle.std.specs.List.{find, list_any}
 use Rattle.std.specs.Int.Signed.{lt_z}
+use Rattle.std.proofs.lemmas.Bool.{eq-eqb}
 use Rattle.std.proofs.lemmas.Bool.Decides.{nat_tests}
 use Rattle.rm_base.specs.declared.definitions.Definitions.{Definitions}
 use Rattle.rm_base.specs.Name.{same_name, general}
 use Rattle.rm_rules.specs.declared.state.Waiter.{Waiter}
-use Rattle.rm_rules.specs.State.{State}
+use Rattle.rm_rules.specs.State.{State, without_waiter}
 use Rattle.rm_rules.specs.Holdings.{Holdings, holdings_of}
 use Rattle.rm_rules.specs.Definitions.{pool_row}
 use Rattle.rm_rules.specs.Budget.{threshold}
 use Rattle.rm_rules.specs.Accounting.{lent, free, need}
 use Rattle.rm_rules.specs.Fit.{poolfit}
 use Rattle.rm_rules.specs.Admission.{ask_of, heads_behind, heads, priority_of, put_in_order, in_queue_order, first_among, first_entitled, judged_for, is_entitled, is_blocked}
-use Rattle.rm_rules.proofs.Taken.{and_left}
+use Rattle.rm_rules.proofs.Taken.{and_left, found_counted, counted_among, length_without}
 
 -- the query is one of these
 pub record IsAmong (w : Waiter) (ws : List Waiter) : Type 0 where
@@ -103,3 +104,16 @@ enough-turn p n l t f h = grind (arith, nat_tests)
 
 pub enough : (d : Definitions) (h : Holdings) (w : Waiter) → (judged_for d h w).fits ≡ true → need h w.pool (ask_of d w) ≤ free h
 enough d h w fits = enough-turn (poolfit d h w.pool (ask_of d w)) (need h w.pool (ask_of d w)) (lent h) (threshold d (pool_row d general)) (free h) fits
+
+-- the session of a waiting query has one that is found
+pub session_found : (w : Waiter) (ws : List Waiter) → IsAmong w ws → (y : Waiter) × (find (λ x. eqb x.session w.session) ws ≡ Some y)
+session_found w ws among =
+    found_counted (λ (x : Waiter). eqb x.session w.session) ws
+    (subst (λ (l : List Waiter). 1 ≤ count_by (λ x. eqb x.session w.session) l) (sym among.split)
+    (counted_among (λ x. eqb x.session w.session) among.front among.rest w (eq-eqb w.session w.session refl)))
+
+-- so one query fewer waits without it
+pub without-fewer : (w : Waiter) (ws : List Waiter) → IsAmong w ws → 1 + length (without_waiter w.session ws) ≡ length ws
+without-fewer w ws among =
+    let found = session_found w ws among in
+    omega (arith, length_without (λ (x : Waiter). eqb x.session w.session) found.0 ws found.1)
