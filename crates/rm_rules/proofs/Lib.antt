@@ -24,6 +24,8 @@ pub mod Keeping
 pub mod Answering
 pub mod Stepping
 pub mod Laws
+pub mod Forces
+pub mod Foreign
 pub mod Rests
 pub mod Idle
 pub mod There

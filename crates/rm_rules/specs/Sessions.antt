@@ -6,6 +6,7 @@ use Rattle.rm_base.specs.declared.reply.End.{End}
 use Rattle.rm_rules.specs.declared.state.Phase.{Phase}
 use Rattle.rm_rules.specs.declared.state.Phase.TheVariants as phase
 use Rattle.rm_rules.specs.declared.state.Session.{Session}
+use Rattle.rm_rules.specs.State.{State, session_called}
 
 -- the session for which an event is
 abbrev pub session_in : Event → Option ℕ
@@ -34,3 +35,9 @@ pub record IsLeft (old new : Session) : Type 0 where
   pub pool : new.pool ≡ old.pool
   pub cap_ms : new.cap_ms ≡ old.cap_ms
   pub phase : Settles old.phase new.phase
+
+-- each session that is open, and for which the event is not, is still open, and left so
+abbrev pub LeavesForeign : ℕ → Event → State → State → Type 0
+LeavesForeign seat event old new =
+    (x : Session) → session_called old.sessions x.number ≡ Some x → IsForeign seat event x
+    → (y : Session) × (session_called new.sessions x.number ≡ Some y) × IsLeft x y

@@ -1,0 +1,226 @@
+-- What an event leaves of the sessions for which it is not.
+use Rattle.std.proofs.Common.{◌≡◌, ℕ, Bool, true, false, ◌||◌, cond, eqb, List, [], ◌∷◌, ◌++◌, Some, None, Option, inl, inr, ◌⊎◌, refl, sym, ap, ◌∙◌, subst}
+use Rattle.std.specs.Prelude.{◌≢◌, option_map}
+use Rattle.std.specs.List.{find}
+use Rattle.std.proofs.lemmas.Bool.{eqb-true, eq-eqb, false≢true}
+use Rattle.rm_base.specs.declared.event.Event.{Event}
+use Rattle.rm_base.specs.declared.event.Event.TheVariants.{Define, Open, SetPool, Submit, Poll, Finish}
+use Rattle.rm_base.specs.declared.reply.End.{End}
+use Rattle.rm_rules.specs.declared.answer.Answer.{Answer}
+use Rattle.rm_rules.specs.declared.answer.Answer.TheVariants.{Says, Tells, Collects}
+use Rattle.rm_rules.specs.declared.state.Phase.{Phase}
+use Rattle.rm_rules.specs.declared.state.Phase.TheVariants as phase
+use Rattle.rm_rules.specs.declared.state.Session.{Session}
+use Rattle.rm_rules.specs.declared.state.Waiter.{Waiter}
+use Rattle.rm_rules.specs.State.{State, session_called, session_of, phase_of, with_phase, with_choice, is_idle, is_waiting, is_ended}
+use Rattle.rm_rules.specs.Admission.{admitted, first_entitled}
+use Rattle.rm_rules.specs.Shuffle.{shuffled_state}
+use Rattle.rm_rules.specs.Deadlines.{ended_as}
+use Rattle.rm_rules.specs.Settle.{settled}
+use Rattle.rm_rules.specs.Change.{Change}
+use Rattle.rm_rules.specs.Answers.{reply_of, answered}
+use Rattle.rm_rules.specs.Step.{Outcome, entered, moved_to, has_due, found_at, attempted, step}
+use Rattle.rm_rules.specs.Replay.{IsFormed}
+use Rattle.rm_rules.specs.Sessions.{session_in, IsForeign, Settles, Stays, Runs, Ends, IsLeft, LeavesForeign}
+use Rattle.rm_rules.specs.Healthy.{AreInPhase, IsUnsettled, IsHealthy}
+use Rattle.rm_rules.proofs.Taken.{found_passes}
+use Rattle.rm_rules.proofs.Changed.{other-changed}
+use Rattle.rm_rules.proofs.Phases.{is_called, phased, choosing_pool, called-with_same, called-with_other, phase_of-found}
+use Rattle.rm_rules.proofs.Queue.{IsAmong}
+use Rattle.rm_rules.proofs.Admitting.{session-waits, in_phase-admitted}
+use Rattle.rm_rules.proofs.Ending.{in_phase-ended}
+use Rattle.rm_rules.proofs.Settling.{entitled-among, due-keeps, settled-keeps}
+use Rattle.rm_rules.proofs.Changing.{IsTried, stays, changes, IsQuiet, refuses, repeats, tells, IsChange, defines, opens, chooses, submits, collects, finishes, session_of-is, tried-is}
+use Rattle.rm_rules.proofs.Stepping.{moved-facts, found-facts, unsettled-tried, outcome-turn}
+
+pub settles-then : (p q r : Phase) → Settles p q → Settles q r → Settles p r
+settles-then p _ r (Stays _) then = then
+settles-then _ _ _ Runs (Stays _) = Runs
+settles-then _ _ _ (Ends end) (Stays _) = Ends end
+
+pub settles-live : (p q : Phase) → Settles p q → is_idle p ≡ false → is_idle q ≡ false
+settles-live p _ (Stays _) live = live
+settles-live _ _ Runs live = refl
+settles-live _ _ (Ends end) live = refl
+
+-- a waiting query may begin to run, or end
+waits-runs : (p : Phase) → is_waiting p ≡ true → Settles p phase.Running
+waits-runs phase.Idle h = absurd (false≢true h)
+waits-runs phase.Waiting h = Runs
+waits-runs phase.Running h = absurd (false≢true h)
+waits-runs (phase.Ended end) h = absurd (false≢true h)
+
+waits-ends : (end : End) (p : Phase) → is_waiting p ≡ true → Settles p (phase.Ended end)
+waits-ends end phase.Idle h = absurd (false≢true h)
+waits-ends end phase.Waiting h = Ends end
+waits-ends end phase.Running h = absurd (false≢true h)
+waits-ends end (phase.Ended other) h = absurd (false≢true h)
+
+-- the session of this number is left as it was
+pub record IsLeftAt (n : ℕ) (x : Session) (sessions : List Session) : Type 0 where
+  pub session : Session
+  pub called : session_called sessions n ≡ Some session
+  pub left : IsLeft x session
+
+pub left-self : (n : ℕ) (x : Session) (sessions : List Session) → session_called sessions n ≡ Some x → IsLeftAt n x sessions
+left-self n x sessions found = record {
+  session = x;
+  called = found;
+  left = record { number = refl; seat = refl; user = refl; pool = refl; cap_ms = refl; phase = Stays x.phase };
+}
+
+pub left-then : (x y z : Session) → IsLeft x y → IsLeft y z → IsLeft x z
+left-then x y z h k = record {
+  number = k.number ∙ h.number;
+  seat = k.seat ∙ h.seat;
+  user = k.user ∙ h.user;
+  pool = k.pool ∙ h.pool;
+  cap_ms = k.cap_ms ∙ h.cap_ms;
+  phase = settles-then x.phase y.phase z.phase h.phase k.phase;
+}
+
+-- where a session goes over to another phase as settling may bring
+with-turn : (n m : ℕ) (p : Phase) (x : Session) (sessions : List Session) (h : IsLeftAt n x sessions) (b : Bool) → eqb m n ≡ b → (b ≡ true → Settles (phase_of sessions n) p)
+    → IsLeftAt n x (with_phase m p sessions)
+with-turn n m p x sessions h true same settles = record {
+  session = phased p h.session;
+  called =
+      ap (λ k. session_called (with_phase k p sessions) n) (eqb-true m n same) ∙ called-with_same n p sessions ∙ ap (option_map (phased p)) h.called;
+  left = record {
+    number = h.left.number;
+    seat = h.left.seat;
+    user = h.left.user;
+    pool = h.left.pool;
+    cap_ms = h.left.cap_ms;
+    phase = settles-then x.phase h.session.phase p h.left.phase (subst (λ q. Settles q p) (phase_of-found n sessions h.session h.called) (settles refl));
+  };
+}
+with-turn n m p x sessions h false apart settles = record {
+  session = h.session;
+  called = called-with_other m n p sessions apart ∙ h.called;
+  left = h.left;
+}
+
+left-with : (n m : ℕ) (p : Phase) (x : Session) (sessions : List Session) → IsLeftAt n x sessions → (eqb m n ≡ true → Settles (phase_of sessions n) p) → IsLeftAt n x (with_phase m p sessions)
+left-with n m p x sessions h settles = with-turn n m p x sessions h (eqb m n) refl settles
+
+-- so settling and deadlines leave it
+pub record IsLeftIn (n : ℕ) (x : Session) (s : State) : Type 0 where
+  pub in_phase : AreInPhase s.sessions s.waiting s.running
+  pub left : IsLeftAt n x s.sessions
+
+waits-at : (n : ℕ) (s : State) (w : Waiter) → AreInPhase s.sessions s.waiting s.running → IsAmong w s.waiting → eqb w.session n ≡ true → is_waiting (phase_of s.sessions n) ≡ true
+waits-at n s w h among same = ap (λ k. is_waiting (phase_of s.sessions k)) (sym (eqb-true w.session n same)) ∙ session-waits s.sessions s.waiting s.running w h among
+
+left-ended : (n : ℕ) (x : Session) (s : State) (w : Waiter) (end : End) → IsAmong w s.waiting → IsLeftIn n x s → IsLeftIn n x (ended_as end s w)
+left-ended n x s w end among h = record {
+  in_phase = in_phase-ended end s w h.in_phase among;
+  left = left-with n w.session (phase.Ended end) x s.sessions h.left (λ same. waits-ends end _ (waits-at n s w h.in_phase among same));
+}
+
+left-admitted : (n : ℕ) (x : Session) (s : State) (w : Waiter) → first_entitled s ≡ Some w → IsLeftIn n x s → IsLeftIn n x (admitted s w)
+left-admitted n x s w picked h =
+    let among = entitled-among s w picked in
+    record {
+      in_phase = in_phase-admitted s w h.in_phase among;
+      left = left-with n w.session phase.Running x s.sessions h.left (λ same. waits-runs _ (waits-at n s w h.in_phase among same));
+    }
+
+pub left-settled : (n : ℕ) (x : Session) (s : State) → AreInPhase s.sessions s.waiting s.running → IsLeftAt n x s.sessions → IsLeftIn n x (settled s)
+left-settled n x s in_phase left =
+    settled-keeps (IsLeftIn n x) (left-ended n x) (λ t h. record { in_phase = h.in_phase; left = h.left }) (left-admitted n x) s (record { in_phase = in_phase; left = left })
+
+pub left-found : (n : ℕ) (x : Session) (s : State) (at : ℕ) → AreInPhase s.sessions s.waiting s.running → session_called s.sessions n ≡ Some x → IsLeftIn n x (found_at s at)
+left-found n x s at in_phase found =
+    due-keeps (IsLeftIn n x) (left-ended n x) (moved_to s at) (record { in_phase = in_phase; left = left-self n x s.sessions found })
+
+-- an event that is not for a session is for one of another number
+number-turn : (s : State) (seat session n : ℕ) (event : Event) (x y z : Session) → session_in event ≡ Some session → IsForeign seat event x → x.number ≡ n → y.seat ≡ x.seat
+    → session_called s.sessions n ≡ Some y → session_of s seat session ≡ Some z → (b : Bool) → eqb z.number n ≡ b → b ≡ false
+number-turn s seat session n event x y z for foreign number of_seat called found false apart = refl
+number-turn s seat session n event x y z for foreign number of_seat called found true same = absurd (both foreign) where
+  is : eqb session n ≡ true
+  is = ap (λ k. eqb k n) (sym (session_of-is s seat session z found).number) ∙ same
+  both : IsForeign seat event x → ⊥
+  both (inl other) = other (for ∙ ap (λ k. Some k) (eqb-true session n is ∙ sym number))
+  both (inr other) =
+      let one : session_called s.sessions n ≡ Some z = ap (session_called s.sessions) (sym (eqb-true session n is)) ∙ (session_of-is s seat session z found).called in
+      let same : y ≡ z = let e : Some y ≡ Some z = sym called ∙ one in cc in
+      other (sym of_seat ∙ ap (λ (v : Session). v.seat) same ∙ (session_of-is s seat session z found).of_seat)
+
+-- a new session stands behind the others
+behind : (b : Bool) (n : ℕ) (x y z : Session) (xs : List Session) → cond b (Some z) (session_called xs n) ≡ Some x
+    → (session_called xs n ≡ Some x → session_called (xs ++ y ∷ []) n ≡ Some x) → cond b (Some z) (session_called (xs ++ y ∷ []) n) ≡ Some x
+behind true n x y z xs found rest = found
+behind false n x y z xs found rest = rest found
+
+push-turn : (n : ℕ) (x y : Session) (xs : List Session) → session_called xs n ≡ Some x → session_called (xs ++ y ∷ []) n ≡ Some x
+push-turn n x y [] found = let none : None ≡ Some x = found in absurd (cc)
+push-turn n x y (z ∷ xs) found = behind (eqb z.number n) n x y z xs found (push-turn n x y xs)
+
+abbrev apart : State → ℕ → Event → ℕ → Session → Type 0
+apart s seat event n x =
+    (session : ℕ) (z : Session) → session_in event ≡ Some session → session_of s seat session ≡ Some z → eqb z.number n ≡ false
+
+left-changed : (s : State) (seat : ℕ) (event : Event) (c : Change) (n : ℕ) (x : Session) → IsChange s seat event c → apart s seat event n x → IsLeftAt n x s.sessions
+    → IsLeftAt n x c.state.sessions
+left-changed s seat _ _ n x (defines statement new accepts) other h = h
+left-changed s seat _ _ n x (opens user may) other h = record { session = h.session; called = push-turn n h.session _ s.sessions h.called; left = h.left }
+left-changed s seat _ _ n x (chooses session pool z found may differs) other h = record {
+  session = h.session;
+  called =
+      other-changed (is_called z.number) (is_called n) (choosing_pool pool) s.sessions
+      (λ y is. ap (λ k. eqb k n) (eqb-true y.number z.number is) ∙ other session z refl found) (λ y. refl)
+      ∙ h.called;
+  left = h.left;
+}
+left-changed s seat _ _ n x (submits session floor z found may) other h =
+    left-with n z.number phase.Waiting x s.sessions h (λ same. absurd (false≢true (sym (other session z refl found) ∙ same)))
+left-changed s seat _ _ n x (collects session z end found ended) other h =
+    left-with n z.number phase.Idle x s.sessions h (λ same. absurd (false≢true (sym (other session z refl found) ∙ same)))
+left-changed s seat _ _ n x (finishes session z found runs) other h =
+    left-with n z.number phase.Idle x s.sessions h (λ same. absurd (false≢true (sym (other session z refl found) ∙ same)))
+
+-- and its answer is another session's
+answer-turn : (n m : ℕ) (x : Session) (t : State) (b : Bool) → eqb m n ≡ false → IsLeftAt n x t.sessions → IsLeftAt n x (cond b (with_phase m phase.Idle t.sessions) t.sessions)
+answer-turn n m x t true other h = left-with n m phase.Idle x t.sessions h (λ same. absurd (false≢true (sym other ∙ same)))
+answer-turn n m x t false other h = h
+
+quiet-answered : (s t : State) (seat : ℕ) (event : Event) (answer : Answer) (n : ℕ) (x : Session) → IsQuiet s seat event answer → IsLeftAt n x t.sessions
+    → IsLeftAt n x (answered t answer).sessions
+quiet-answered s t seat _ _ n x (refuses event r is) h = h
+quiet-answered s t seat _ _ n x (repeats session pool z found same) h = h
+quiet-answered s t seat _ _ n x (tells session z found active) h = h
+
+change-answered : (s t : State) (seat : ℕ) (event : Event) (c : Change) (n : ℕ) (x : Session) → IsChange s seat event c → apart s seat event n x → IsLeftAt n x t.sessions
+    → IsLeftAt n x (answered t c.answer).sessions
+change-answered s t seat _ _ n x (defines statement new accepts) other h = h
+change-answered s t seat _ _ n x (opens user may) other h = h
+change-answered s t seat _ _ n x (chooses session pool z found may differs) other h = h
+change-answered s t seat _ _ n x (submits session floor z found may) other h = answer-turn n z.number x t (is_ended (phase_of t.sessions z.number)) (other session z refl found) h
+change-answered s t seat _ _ n x (collects session z end found ended) other h = h
+change-answered s t seat _ _ n x (finishes session z found runs) other h = h
+
+-- what is tried leaves the session, and so does its settling and its answer
+tried-left : (s : State) (seat : ℕ) (event : Event) (c : Change) (n : ℕ) (x : Session) → IsTried s seat event c → AreInPhase c.state.sessions c.state.waiting c.state.running
+    → apart s seat event n x → IsLeftAt n x s.sessions → IsLeftAt n x (answered (settled c.state) c.answer).sessions
+tried-left s seat event _ n x (stays answer still) in_phase other h =
+    quiet-answered s (settled s) seat event answer n x still (left-settled n x s in_phase h).left
+tried-left s seat event _ n x (changes c is loud) in_phase other h =
+    change-answered s (settled c.state) seat event c n x is other (left-settled n x c.state in_phase (left-changed s seat event c n x is other h)).left
+
+pub foreign-step : (s : State) (seat at : ℕ) (event : Event) → IsHealthy s → IsFormed event → LeavesForeign seat event s (step s seat at event).state
+foreign-step s seat at event h formed x called foreign =
+    let t = found_at s at in
+    let c = attempted t seat event in
+    let is = tried-is t seat event in
+    let n = x.number in
+    let found = (left-found n x s at h.in_phase called).left in
+    let other : apart t seat event n x = λ session z for of.
+    number-turn t seat session n event x found.session z for foreign refl found.left.seat found.called of (eqb z.number n) refl in
+    outcome-turn (λ o. (y : Session) × (session_called o.state.sessions n ≡ Some y) × IsLeft x y) s seat event c (has_due s at || c.changed)
+    (λ settles.
+      let left = tried-left t seat event c n x is (unsettled-tried s seat at event c is formed h settles).in_phase other found in
+      (left.session, left.called, left.left)
+    )
+    (λ still. let left = left-self n x s.sessions called in (left.session, left.called, left.left))
