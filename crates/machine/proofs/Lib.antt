@@ -1,4 +1,5 @@
 pub mod Places
+pub mod Ends
 pub mod Running
 pub mod Inside
 pub mod Defining

@@ -6,24 +6,33 @@ use crate::counters::count_end;
 use crate::sessions::set_phase;
 use budgets::least_cap;
 use pool_queue::deadline;
+use rm_base::name::Name;
 use rm_base::reply::End;
-use rm_rules::state::{Phase, Waiter};
+use rm_rules::state::{Cap, Phase, Waiter};
 
 impl Machine {
     ghost use Rattle.rm_rules.specs.Definitions.{pool_row};
-    ghost use Rattle.rm_rules.specs.Ask.{is_too_large};
+    ghost use Rattle.rm_rules.specs.Ask.{least_cap, is_too_large};
     ghost use Rattle.rm_rules.specs.Deadlines.{ended_as, first_due, first_nowait, timed_out, without_due};
     ghost use Rattle.rm_rules.specs.Settle.{first_too_large, too_large_end, without_too_large, without_nowait};
     ghost use Rattle.rm_rules.specs.Sound.{IsSound};
     ghost use Rattle.rm_rules.specs.Healthy.{AreNumbered, IsHealthy};
     ghost use Rattle.machine.specs.Settling.{CanSettle, IsSettling, MayLeave};
 
+    /// The least cap on what a query of this user can hold in the pool.
+    pub fn least_cap(&self, pool: Name, user: Name) -> Cap
+        requires { IsSound self.now.definitions }
+        ensures { result ≡ least_cap self.now.definitions (pool_row self.now.definitions pool) user }
+    {
+        least_cap(&self.definitions, pool, user)
+    }
+
     /// The waiting query's floor is above its least cap.
     fn is_too_large(&self, w: &Waiter) -> bool
         requires { IsSound self.now.definitions }
         ensures { result ≡ is_too_large self.now.definitions (pool_row self.now.definitions w.now.pool) w.now.user w.now.floor }
     {
-        least_cap(&self.definitions, w.pool, w.user).bytes < w.floor
+        self.least_cap(w.pool, w.user).bytes < w.floor
     }
 
     /// How a waiting query that is too large ends.
@@ -31,7 +40,7 @@ impl Machine {
         requires { IsSound self.now.definitions }
         ensures { result ≡ too_large_end self.now w.now }
     {
-        let least = least_cap(&self.definitions, w.pool, w.user);
+        let least = self.least_cap(w.pool, w.user);
         End::TooLarge(least.kind, w.floor, least.bytes)
     }
 

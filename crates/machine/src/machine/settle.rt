@@ -14,6 +14,7 @@ impl Machine {
     ghost use Rattle.rm_rules.specs.Shuffle.{shuffled_state};
     ghost use Rattle.rm_rules.specs.Settle.{settled, first_too_large};
     ghost use Rattle.rm_rules.specs.Sound.{IsSound, has_pool};
+    ghost use Rattle.rm_rules.specs.Healthy.{AreSized};
     ghost use Rattle.machine.specs.Settling.{CanSettle, IsSettling, MayLeave};
 
     /// The first entitled head in queue order.
@@ -28,6 +29,7 @@ impl Machine {
     /// The waiting query runs from now on, with its ask as its grant.
     fn admit(&mut self, w: Waiter)
         requires sound { IsSound self.old.definitions }
+        requires sized { AreSized self.old.definitions self.old.actual self.old.counters }
         requires room { length self.old.running < SESSIONS_MOST }
         requires absent { count_by (λ r. r.query == w.query) self.old.running ≡ 0 }
         requires known { has_pool self.old.definitions w.pool ≡ true }

@@ -4,7 +4,6 @@ ghost use Rattle.std.specs.Prelude.{◌≡◌, true, Some, Ok, Err, IfOk, IfErr,
 use super::Machine;
 use crate::done::Done;
 use crate::sessions::{is_idle, set_phase};
-use budgets::least_cap;
 use rm_base::name::Name;
 use rm_base::refusal::Refusal;
 use rm_rules::answer::Answer;
@@ -22,7 +21,7 @@ impl Machine {
         requires { IsSound self.now.definitions }
         ensures { result ≡ size_refusal self.now.definitions pool user floor }
     {
-        let least = least_cap(&self.definitions, pool, user);
+        let least = self.least_cap(pool, user);
         if least.bytes < floor {
             Some(Refusal::TooLarge(least.kind, floor, least.bytes))
         } else {

@@ -1,0 +1,12 @@
+use Rattle.machine.proofs.Entering.{attempted-is, healthy-moved, healthy-found}
+use Rattle.machine.proofs.machine.Machine.attempt_at.Goals as goal
+
+pub end_due-timed-requires : goal.end_due-timed-requires
+end_due-timed-requires c = healthy-moved c.args.self.now c.args.at c.move_to.new.self c.move_to.ensures.state c.requires.healthy
+
+pub attempt-done-requires-clause-healthy : goal.attempt-done-requires-clause-healthy
+attempt-done-requires-clause-healthy c =
+    healthy-found c.args.self.now c.args.at c.move_to.new.self c.end_due-timed.new.self c.move_to.ensures.state c.end_due-timed.ensures.state c.requires.healthy
+
+pub returns : goal.returns
+returns c = ?
