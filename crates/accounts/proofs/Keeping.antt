@@ -1,5 +1,5 @@
 -- What each call keeps of the accounts.
-use Rattle.std.proofs.Common.{◌≡◌, ◌≤◌, ◌<◌, ℕ, ◌+◌, Bool, true, false, ◌||◌, not, cond, List, [], ◌∷◌, ◌++◌, map, refl, ap, sym, subst, ◌∙◌, arith, sum_by, count_by, nat_eq}
+use Rattle.std.proofs.Common.{◌≡◌, ◌≤◌, ℕ, ◌+◌, Bool, true, false, ◌||◌, not, cond, List, [], ◌∷◌, ◌++◌, map, refl, ap, sym, subst, ◌∙◌, arith, sum_by, count_by, nat_eq}
 use Rattle.std.specs.List.{list_any, list_all}
 use Rattle.std.proofs.lemmas.Bool.{false≢true}
 use Rattle.std.proofs.lemmas.Bool.Decides.{nat_tests}
@@ -16,7 +16,7 @@ use Rattle.rm_rules.specs.declared.state.Reserve.{Reserve}
 use Rattle.rm_rules.specs.Definitions.{total, user_pools}
 use Rattle.rm_rules.specs.Holdings.{Holdings, reserves_of}
 use Rattle.rm_rules.specs.State.{without}
-use Rattle.rm_rules.specs.Accounting.{held_in, used, debt, kept_back, lent, free, need, taken_up}
+use Rattle.rm_rules.specs.Accounting.{held_in, used, debt, kept_back, free, need, taken_up}
 use Rattle.rm_rules.specs.Shuffle.{fallen, with_force, shuffled}
 use Rattle.rm_rules.specs.Sound.{IsSound, are_distinct}
 use Rattle.rm_rules.proofs.Bytes.{AreNamed, reserve_names-of, lent-push, lent-less}

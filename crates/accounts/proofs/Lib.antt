@@ -3,3 +3,4 @@ pub mod Places
 pub mod Turns
 pub mod Keeping
 pub mod Seen
+pub mod Standing

@@ -1,5 +1,5 @@
 -- What the fields of open accounts say of the accounts as they are seen.
-use Rattle.std.proofs.Common.{◌≡◌, ℕ, ◌+◌, ◌-◌, max, Option, Some, None, List, [], ◌∷◌, ◌++◌, ap, sym, ◌∙◌, sum_by, position, take, get_or, remove, find}
+use Rattle.std.proofs.Common.{◌≡◌, ℕ, ◌+◌, ◌-◌, max, Option, Some, None, List, [], ◌∷◌, ◌++◌, ap, sym, ◌∙◌, sum_by, position, take, get_or, remove}
 use Rattle.rm_base.specs.declared.definitions.Definitions.{Definitions}
 use Rattle.rm_base.specs.declared.entry.Account.{Account}
 use Rattle.rm_base.specs.declared.name.Name.{Name}
@@ -35,7 +35,6 @@ given-seen h a gs query i same items found =
 
 pub given-absent : (a : Holdings) (query : ℕ) → let o : Option ℕ = None in position (is_of query) a.grants ≡ o → a ≡ given_back a query
 given-absent a query absent = sym (ap (λ (xs : List Holding). let u : Holdings = record a { grants = xs } in u) (without-absent (is_of query) a.grants absent))
-
 
 pub grant-found : (a : Holdings) (gs : List Holding) (query i : ℕ) (g : Holding) → gs ≡ a.grants → position (is_of query) a.grants ≡ Some i → g ≡ get_or gs i g
     → g.bytes ≡ grant_of a.grants query

@@ -1,10 +1,10 @@
 -- One turn of the shuffle, at a pool and the row in the same place.
-use Rattle.std.proofs.Common.{◌≡◌, ◌<◌, ◌≤◌, ℕ, ◌+◌, ◌-◌, List, [], ◌∷◌, ◌++◌, length, take, drop, set, get_or, refl, sym, ap, ◌∙◌, arith}
+use Rattle.std.proofs.Common.{◌≡◌, ◌<◌, ℕ, ◌+◌, ◌-◌, List, ◌∷◌, ◌++◌, length, take, drop, set, get_or, refl, sym, ap, ◌∙◌, arith}
 use Rattle.rm_base.specs.declared.definitions.Definitions.{Definitions}
 use Rattle.rm_base.specs.declared.rows.PoolRow.{PoolRow}
 use Rattle.rm_rules.specs.declared.state.Holding.{Holding}
 use Rattle.rm_rules.specs.declared.state.Reserve.{Reserve}
-use Rattle.rm_rules.specs.Definitions.{user_pools, memory_of}
+use Rattle.rm_rules.specs.Definitions.{user_pools}
 use Rattle.rm_rules.specs.Accounting.{debt}
 use Rattle.rm_rules.specs.Shuffle.{resized, fallen_size, growth, grown_reserves}
 use Rattle.rm_rules.specs.Sound.{IsSound}

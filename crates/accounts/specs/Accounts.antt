@@ -1,5 +1,5 @@
 -- What is read of the bytes by query and by pool, and what each call does to them.
-use Rattle.std.specs.Prelude.{◌≡◌, ℕ, ◌==◌, Bool, not, List, [], ◌∷◌, ◌++◌, Some, None, find, take_while, map}
+use Rattle.std.specs.Prelude.{ℕ, ◌==◌, Bool, not, List, [], ◌∷◌, ◌++◌, Some, None, find, take_while, map}
 use Rattle.std.specs.List.{list_any}
 use Rattle.rm_base.specs.declared.definitions.Definitions.{Definitions}
 use Rattle.rm_base.specs.declared.entry.Account.{Account}

@@ -3,6 +3,7 @@
 
 mod bytes;
 mod holdings;
+pub mod laws;
 mod sizes;
 
 pub use crate::holdings::Accounts;

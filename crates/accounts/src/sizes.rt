@@ -113,9 +113,12 @@ pub fn grow(
         let e = reserves.rows()[i];
         let more = growth_to(row.memory, grants, &e, spare);
         spare = spare_after(grants, &e, more, spare);
-        reserves.set(i, Reserve {
-            pool: e.pool,
-            size: e.size + more,
-        });
+        reserves.set(
+            i,
+            Reserve {
+                pool: e.pool,
+                size: e.size + more,
+            },
+        );
     }
 }

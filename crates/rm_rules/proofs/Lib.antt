@@ -1,5 +1,6 @@
 pub mod Taken
 pub mod Places
+pub mod Once
 pub mod Pools
 pub mod AcceptancePools
 pub mod AcceptanceChains

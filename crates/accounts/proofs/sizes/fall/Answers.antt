@@ -1,5 +1,4 @@
-use Rattle.std.proofs.Common.{◌≡◌, ◌<◌, ◌≤◌, ℕ, List, length, get_or, refl, sym, ap, ◌∙◌, arith}
-use Rattle.rm_base.specs.declared.rows.PoolRow.{PoolRow}
+use Rattle.std.proofs.Common.{List, length, get_or, refl, sym, ap, ◌∙◌, arith}
 use Rattle.rm_rules.specs.declared.state.Reserve.{Reserve}
 use Rattle.rm_rules.specs.Definitions.{user_pools}
 use Rattle.accounts.specs.Sizes.{fallen_reserves}

@@ -1,4 +1,4 @@
-use Rattle.std.proofs.Common.{◌∙◌, sym, ap, subst}
+use Rattle.std.proofs.Common.{sym, ap, subst}
 use Rattle.rm_rules.specs.Holdings.{Holdings}
 use Rattle.accounts.specs.Kept.{IsKept, seen}
 use Rattle.accounts.proofs.Keeping.{kept_given_back}

@@ -1,4 +1,4 @@
-use Rattle.std.proofs.Common.{◌≡◌, ◌+◌, max, ℕ, List, sum_by, sym, ap, subst, ◌∙◌, arith}
+use Rattle.std.proofs.Common.{◌+◌, max, ℕ, List, sum_by, sym, ap, subst, ◌∙◌, arith}
 use Rattle.rm_base.specs.Name.{general}
 use Rattle.rm_rules.specs.declared.state.Reserve.{Reserve}
 use Rattle.rm_rules.specs.Holdings.{Holdings}
