@@ -70,7 +70,7 @@ last-absent row [] absent = refl
 last-absent row (r ∷ rs) absent = last-turn row r rs (same_name r.name row.name) absent (last-absent row rs)
 
 -- reserves hang on names and sizes alone
-pub reserves-named : (rows others : List PoolRow) (ns : List ℕ) → names rows ≡ names others → reserves_of rows ns ≡ reserves_of others ns
+reserves-named : (rows others : List PoolRow) (ns : List ℕ) → names rows ≡ names others → reserves_of rows ns ≡ reserves_of others ns
 reserves-named [] [] ns e = refl
 reserves-named [] (o ∷ os) ns e = let none : [] ≡ o.name ∷ names os = e in absurd (cc)
 reserves-named (r ∷ rs) [] ns e = let none : r.name ∷ names rs ≡ [] = e in absurd (cc)
@@ -82,7 +82,7 @@ reserves-named (r ∷ rs) (o ∷ os) (n ∷ ns) e =
     ∙ ap (λ l. (let x : Reserve = record { pool = o.name; size = n } in x) ∷ l) (reserves-named rs os ns rest)
 
 -- one more pool with nothing reserved
-pub reserves-push : (rows : List PoolRow) (ns : List ℕ) (row : PoolRow) → length ns ≡ length rows
+reserves-push : (rows : List PoolRow) (ns : List ℕ) (row : PoolRow) → length ns ≡ length rows
     → reserves_of (rows ++ row ∷ []) (ns ++ 0 ∷ []) ≡ reserves_of rows ns ++ (let x : Reserve = record { pool = row.name; size = 0 } in x) ∷ []
 reserves-push [] [] row e = refl
 reserves-push [] (m ∷ ns) row e = absurd (omega arith)
