@@ -1,58 +1,12 @@
 -- A waiting query by its number and by its session.
-use Rattle.std.proofs.Common.{◌≡◌, ◌≤◌, ◌<◌, ℕ, ◌+◌, suc, Bool, true, false, ◌||◌, nat_eq, cond, not, ltb, Option, Some, None, unwrap_or, option_map, List, [], ◌∷◌, ◌++◌, length, find, count_by, position, refl, ap, sym, ◌∙◌, arith, length-append}
-use Rattle.std.specs.List.{position_or_len}
-use Rattle.std.proofs.lemmas.Bool.Decides.{nat_tests}
-use Rattle.std.proofs.lemmas.List.Sums.{sum_by-cons}
+use Rattle.std.proofs.Common.{◌≡◌, ◌≤◌, ℕ, ◌+◌, Bool, true, false, ◌||◌, nat_eq, Option, Some, unwrap_or, option_map, List, [], ◌∷◌, ◌++◌, length, find, count_by, position, refl, ap, sym, ◌∙◌, arith}
 use Rattle.rm_rules.specs.declared.state.Waiter.{Waiter}
 use Rattle.rm_rules.specs.State.{without, without_waiter}
-use Rattle.rm_rules.specs.Change.{place_of}
-use Rattle.rm_rules.proofs.Taken.{counted_among}
+use Rattle.rm_rules.specs.Answers.{queue_place}
+use Rattle.rm_rules.proofs.Once.{is-itself, find-single, without-single, position-single}
 use Rattle.pool_queue.specs.Queue.{is_query, has_query, place_of_query}
 
--- an element that passes, in a list in which one passes at most
-apart-turn : {A : Type 0} (test : A → Bool) (x : A) (xs : List A) (b : Bool) → test x ≡ b → 1 ≤ count_by test xs → count_by test (x ∷ xs) ≤ 1 → b ≡ false
-apart-turn test x xs true e some few =
-    absurd (omega (arith, some, few, sum_by-cons (λ y. cond (test y) 1 0) x xs, ap {B = ℕ} (λ (c : Bool). cond c 1 0) e))
-apart-turn test x xs false e some few = refl
-
-apart : {A : Type 0} (test : A → Bool) (front rest : List A) (x w : A) → test w ≡ true → count_by test (x ∷ front ++ w ∷ rest) ≤ 1 → test x ≡ false
-apart test front rest x w here few = apart-turn test x (front ++ w ∷ rest) (test x) refl (counted_among test front rest w here) few
-
-fewer : {A : Type 0} (test : A → Bool) (x : A) (xs : List A) → count_by test (x ∷ xs) ≤ 1 → count_by test xs ≤ 1
-fewer test x xs few = omega (arith, few, sum_by-cons (λ y. cond (test y) 1 0) x xs)
-
-pub find-single : {A : Type 0} (test : A → Bool) (front rest : List A) (w : A) → test w ≡ true → count_by test (front ++ w ∷ rest) ≤ 1
-    → find test (front ++ w ∷ rest) ≡ Some w
-find-single test [] rest w here few = ap (λ c. cond c (Some w) (find test rest)) here
-find-single test (x ∷ front) rest w here few =
-    ap (λ c. cond c (Some x) (find test (front ++ w ∷ rest))) (apart test front rest x w here few)
-    ∙ find-single test front rest w here (fewer test x (front ++ w ∷ rest) few)
-
-pub without-single : {A : Type 0} (test : A → Bool) (front rest : List A) (w : A) → test w ≡ true → count_by test (front ++ w ∷ rest) ≤ 1
-    → without test (front ++ w ∷ rest) ≡ front ++ rest
-without-single test [] rest w here few = ap (λ c. cond c rest (w ∷ without test rest)) here
-without-single test (x ∷ front) rest w here few =
-    ap (λ c. cond c (front ++ w ∷ rest) (x ∷ without test (front ++ w ∷ rest))) (apart test front rest x w here few)
-    ∙ ap (λ xs. x ∷ xs) (without-single test front rest w here (fewer test x (front ++ w ∷ rest) few))
-
-place-single : {A : Type 0} (test : A → Bool) (front rest : List A) (w : A) → test w ≡ true → count_by test (front ++ w ∷ rest) ≤ 1
-    → position_or_len test (front ++ w ∷ rest) ≡ length front
-place-single test [] rest w here few = ap (λ c. cond (not c) (1 + position_or_len test rest) 0) here
-place-single test (x ∷ front) rest w here few =
-    let next : 1 + position_or_len test (front ++ w ∷ rest) ≡ suc (length front) = omega (arith, place-single test front rest w here (fewer test x (front ++ w ∷ rest) few)) in
-    ap (λ c. cond (not c) (1 + position_or_len test (front ++ w ∷ rest)) 0) (apart test front rest x w here few) ∙ next
-
-pub position-single : {A : Type 0} (test : A → Bool) (front rest : List A) (w : A) → test w ≡ true → count_by test (front ++ w ∷ rest) ≤ 1
-    → position test (front ++ w ∷ rest) ≡ Some (length front)
-position-single test front rest w here few =
-    let at = place-single test front rest w here few in
-    let within : position_or_len test (front ++ w ∷ rest) < length (front ++ w ∷ rest) = omega (arith, at, length-append front (w ∷ rest)) in
-    let e : ltb (position_or_len test (front ++ w ∷ rest)) (length (front ++ w ∷ rest)) ≡ true = grind (arith, nat_tests) in
-    ap (λ c. cond c (Some (position_or_len test (front ++ w ∷ rest))) None) e ∙ ap Some at
-
-is-itself : (n : ℕ) → nat_eq n n ≡ true
-is-itself n = grind (arith, nat_tests)
-
+-- a query is found by its number
 or-true : (b : Bool) → (b || true) ≡ true
 or-true true = refl
 or-true false = refl
@@ -90,7 +44,7 @@ left-by_number waiting before rest w once alone split =
     ∙ sym (ap (λ (ws : List Waiter). without of_session ws) split)
 
 pub place-by_number : (waiting before rest : List Waiter) (w : Waiter) → OnceByNumber waiting → OnceBySession waiting → waiting ≡ before ++ w ∷ rest
-    → place_of_query waiting w.query ≡ Some (place_of waiting w.session)
+    → place_of_query waiting w.query ≡ Some (queue_place waiting w.session)
 place-by_number waiting before rest w once alone split =
     let numbered = is_query w.query in
     let of_session = λ (x : Waiter). nat_eq x.session w.session in

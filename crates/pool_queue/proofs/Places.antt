@@ -1,7 +1,8 @@
 -- Where in a list a test passes.
-use Rattle.std.proofs.Common.{◌≡◌, ◌≤◌, ◌<◌, ℕ, ◌+◌, zero, suc, Bool, true, false, ◌&&◌, ◌||◌, cond, not, ltb, Option, Some, None, List, [], ◌∷◌, length, get_or, find, refl, ap, ◌∙◌, arith, position, is_some}
+use Rattle.std.proofs.Common.{◌≡◌, ◌≤◌, ◌<◌, ℕ, ◌+◌, zero, suc, Bool, true, false, ◌||◌, cond, not, ltb, Option, Some, None, List, [], ◌∷◌, length, get_or, find, refl, ap, ◌∙◌, arith, position, is_some}
 use Rattle.std.specs.List.{position_or_len, list_all, list_any}
 use Rattle.std.proofs.lemmas.Bool.Decides.{nat_tests}
+use Rattle.rm_rules.proofs.Taken.{and_left, and_right}
 
 -- where some element passes, there is a first place
 present-turn : {A : Type 0} (test : A → Bool) (x : A) (xs : List A) (b : Bool) → (list_any test xs ≡ true → position_or_len test xs < length xs)
@@ -40,18 +41,10 @@ pub is_some-position : {A : Type 0} (test : A → Bool) (xs : List A) → is_som
 is_some-position test xs = some-turn test xs (list_any test xs) refl
 
 -- what holds of all, or of none, holds of the one that stands here
-and-first : (a b : Bool) → (a && b) ≡ true → a ≡ true
-and-first true b h = refl
-and-first false b h = absurd (cc)
-
-and-rest : (a b : Bool) → (a && b) ≡ true → b ≡ true
-and-rest true b h = h
-and-rest false b h = absurd (cc)
-
 pub all-at : {A : Type 0} (test : A → Bool) (xs : List A) (i : ℕ) (x : A) → i < length xs → x ≡ get_or xs i x → list_all test xs ≡ true → test x ≡ true
 all-at test [] i x within at all = absurd (omega arith)
-all-at test (y ∷ ys) zero x within at all = ap test at ∙ and-first (test y) (list_all test ys) all
-all-at test (y ∷ ys) (suc i) x within at all = all-at test ys i x (omega arith) at (and-rest (test y) (list_all test ys) all)
+all-at test (y ∷ ys) zero x within at all = ap test at ∙ and_left (test y) (list_all test ys) all
+all-at test (y ∷ ys) (suc i) x within at all = all-at test ys i x (omega arith) at (and_right (test y) (list_all test ys) all)
 
 none-first : {A : Type 0} (b : Bool) (x : A) (o : Option A) → cond b (Some x) o ≡ None → b ≡ false
 none-first true x o e = absurd (cc)

@@ -1,16 +1,17 @@
 -- The heads of the pools, as far as admission asks.
 use Rattle.std.specs.Prelude.{ℕ, Bool, ◌&&◌, ◌==◌, Option, Some, None, option_map, if◌then◌else◌}
 use Rattle.std.specs.Int.Signed.{lt_z}
+use Rattle.rm_base.specs.declared.definitions.Definitions.{Definitions}
 use Rattle.rm_rules.specs.declared.state.Waiter.{Waiter}
 use Rattle.rm_rules.specs.declared.state.Judged.{Judged}
-use Rattle.rm_rules.specs.State.{State}
+use Rattle.rm_rules.specs.Holdings.{Holdings}
 use Rattle.rm_rules.specs.Admission.{priority_of, judged_for}
 use Rattle.pool_queue.specs.declared.heads.Head.{Head}
 use Rattle.pool_queue.specs.declared.heads.Candidates.{Candidates}
 
 -- a waiting query as a head
-abbrev pub head_of : State → Waiter → Head
-head_of s w = record { query = w.query; priority = priority_of s.definitions w; judged = judged_for s w }
+abbrev pub head_of : Definitions → Holdings → Waiter → Head
+head_of d h w = record { query = w.query; priority = priority_of d w; judged = judged_for d h w }
 
 -- it fits, and needs none of GENERAL's bytes
 abbrev pub needs_none : Judged → Bool

@@ -3,7 +3,8 @@ use Rattle.std.specs.Prelude.{ℕ, ◌+◌, Bool, ◌==◌, List, Option, option
 use Rattle.std.specs.List.{list_any, list_all}
 use Rattle.rm_base.specs.declared.definitions.Definitions.{Definitions}
 use Rattle.rm_rules.specs.declared.state.Waiter.{Waiter}
-use Rattle.rm_rules.specs.State.{State}
+use Rattle.rm_rules.specs.Definitions.{pool_row}
+use Rattle.rm_rules.specs.Ask.{is_too_large}
 use Rattle.rm_rules.specs.Sound.{has_pool}
 
 -- the query is this one
@@ -26,6 +27,6 @@ place_of_query waiting query = option_map (λ index. index + 1) (position (is_qu
 abbrev pub are_pools_known : Definitions → List Waiter → Bool
 are_pools_known d waiting = list_all (λ w. has_pool d w.pool) waiting
 
--- the state in which these queries wait, and nothing else differs
-abbrev pub with_waiting : State → List Waiter → State
-with_waiting s waiting = record s { waiting = waiting }
+-- the query's floor is above its least cap
+abbrev pub is_large : Definitions → Waiter → Bool
+is_large d w = is_too_large d (pool_row d w.pool) w.user w.floor

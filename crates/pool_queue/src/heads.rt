@@ -3,14 +3,14 @@ ghost use Rattle.std.specs.Prelude.{◌≡◌, ◌≤◌, Some, None, true, fals
 ghost use Rattle.std.specs.List.{list_any};
 ghost use Rattle.rm_base.specs.Name.{same_name};
 ghost use Rattle.rm_rules.specs.Definitions.{pool_row};
-ghost use Rattle.rm_rules.specs.Budget.{is_too_large};
+ghost use Rattle.rm_rules.specs.Ask.{is_too_large};
 ghost use Rattle.rm_rules.specs.Sound.{IsSound, has_pool};
 ghost use Rattle.pool_queue.specs.Heads.{head_of, first_of, with_head, entitled};
 
 use rm_base::definitions::Definitions;
 use rm_base::name::Name;
+use rm_rules::readings::pool_row;
 use rm_rules::room::Room;
-use rm_rules::rows::pool_row;
 use rm_rules::state::{Judged, Waiter};
 
 /// The first waiting query of a pool: its number, the pool's priority, and how it fits.
@@ -40,10 +40,10 @@ pub fn has_earlier(waiting: &[Waiter], count: usize, pool: Name) -> bool
 /// The waiting query as a head.
 pub fn head_of<R: Room>(definitions: &Definitions, room: &R, w: &Waiter) -> Head
     requires sound { IsSound definitions.now }
-    requires same { (R.stands room.now).definitions ≡ definitions.now }
+    requires same { R.definitions room.now ≡ definitions.now }
     requires known { has_pool definitions.now w.now.pool ≡ true }
     requires small { is_too_large definitions.now (pool_row definitions.now w.now.pool) w.now.user w.now.floor ≡ false }
-    ensures { result ≡ head_of (R.stands room.now) w.now }
+    ensures { result ≡ head_of definitions.now (R.holdings room.now) w.now }
 {
     Head {
         query: w.query,

@@ -2,7 +2,7 @@
 ghost use Rattle.std.specs.Prelude.{◌≡◌, ◌≤◌, ◌==◌, ℕ, true, Some, List, ◌∷◌, ◌++◌, find, count_by};
 ghost use Rattle.rm_rules.specs.declared.state.Waiter.{Waiter};
 ghost use Rattle.rm_rules.specs.State.{without, without_waiter};
-ghost use Rattle.rm_rules.specs.Change.{place_of};
+ghost use Rattle.rm_rules.specs.Answers.{queue_place};
 ghost use Rattle.pool_queue.specs.Queue.{is_query, has_query, place_of_query};
 
 /// Where no number and no session waits twice, a waiting query is found by its number, and by its number it is taken out
@@ -24,5 +24,5 @@ pub fn queries_by_number()
         → ((query : ℕ) → count_by (is_query query) waiting ≤ 1)
         → ((session : ℕ) → count_by (λ x. x.session == session) waiting ≤ 1)
         → waiting ≡ before ++ w ∷ rest
-        → place_of_query waiting w.query ≡ Some (place_of waiting w.session) }
+        → place_of_query waiting w.query ≡ Some (queue_place waiting w.session) }
 {}

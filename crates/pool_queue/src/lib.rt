@@ -6,7 +6,5 @@ mod heads;
 pub mod laws;
 mod waiting;
 
+pub use crate::deadlines::deadline;
 pub use crate::waiting::Queue;
-
-#[cfg(test)]
-mod tests;

@@ -2,10 +2,10 @@
 ghost use Rattle.std.specs.Prelude.{◌≡◌, ◌<◌, ◌≤◌, ◌-◌, [], ◌∷◌, ◌++◌, true, false, find, length, is_some, slice_get, ◌==◌, position, IfOk, IfSome};
 ghost use Rattle.rm_base.specs.declared.limits.TheConstants.{SESSIONS_MOST};
 ghost use Rattle.rm_rules.specs.Sound.{IsSound};
-ghost use Rattle.pool_queue.specs.Queue.{is_query};
 
 use crate::deadlines::{is_due, is_nowait};
 use crate::heads::{Candidates, has_earlier, head_of};
+use rm_base::bounded::Bounded;
 use rm_base::definitions::Definitions;
 use rm_base::limits::SESSIONS_MOST;
 use rm_base::moment::Moment;
@@ -14,45 +14,33 @@ use rm_rules::state::Waiter;
 use std::alloc::{AllocError, Global};
 use std::marker::Model;
 
-/// The waiting queries in the order in which they joined, with room for all that may wait.
+/// The waiting queries in the order in which they joined.
 #[derive(Debug, Drop)]
 pub struct Queue {
-    waiting: Vec<Waiter>,
+    waiting: Bounded<Waiter, SESSIONS_MOST>,
 }
 
 impl Model for Queue {
-    ghost use Rattle.std.specs.Prelude.{List, ◌≤◌, vec_len, vec_capacity};
-    ghost use Rattle.rm_base.specs.declared.limits.TheConstants.{SESSIONS_MOST};
+    ghost use Rattle.std.specs.Prelude.{List};
     ghost use Rattle.rm_rules.specs.declared.state.Waiter.{Waiter};
 
     ghost Value = { List Waiter };
 
-    ghost view = { λ q. q.waiting.items };
-
-    ghost invariant = { λ q. (vec_len q.waiting ≤ SESSIONS_MOST) × (SESSIONS_MOST ≤ vec_capacity q.waiting) };
-}
-
-/// Where the query stands.
-fn index_of(waiting: &[Waiter], query: u64) -> Option<usize>
-    ensures value { result ≡ position (is_query query) waiting.now }
-    ensures within { IfSome result (λ index. index < length waiting.now) }
-{
-    waiting.iter().position(|w| w.query == query)
+    ghost view = { λ q. q.waiting };
 }
 
 impl Queue {
     ghost use Rattle.rm_rules.specs.State.{without};
-    ghost use Rattle.rm_rules.specs.Admission.{first_entitled};
+    ghost use Rattle.rm_rules.specs.Admission.{first_in_queue};
     ghost use Rattle.rm_rules.specs.Deadlines.{is_due, is_nowait};
-    ghost use Rattle.rm_rules.specs.Settle.{first_too_large};
-    ghost use Rattle.pool_queue.specs.Queue.{has_query, query_of, place_of_query, are_pools_known, with_waiting};
+    ghost use Rattle.pool_queue.specs.Queue.{is_query, has_query, query_of, place_of_query, are_pools_known, is_large};
 
     /// No query waits yet. All memory that the queue will ever use is taken here.
     pub fn new(alloc: Global) -> Result<Queue, AllocError>
         ensures empty { IfOk result (λ queue. queue ≡ []) }
     {
         Ok(Queue {
-            waiting: Vec::with_capacity(alloc, SESSIONS_MOST)?,
+            waiting: Bounded::new(alloc)?,
         })
     }
 
@@ -62,7 +50,17 @@ impl Queue {
         requires absent { has_query self.old item.query ≡ false }
         ensures items { self.new ≡ self.old ++ item ∷ [] }
     {
-        self.waiting.push_reserved(item);
+        self.waiting.add(item);
+    }
+
+    /// Where the query stands.
+    fn index_of(&self, query: u64) -> Option<usize>
+        ensures value { result ≡ position (is_query query) self.now }
+        ensures within { IfSome result (λ index. index < length self.now) }
+        ensures most { length self.now ≤ SESSIONS_MOST }
+    {
+        let waiting = self.waiting.rows();
+        waiting.iter().position(|w| w.query == query)
     }
 
     /// A query waits no longer.
@@ -71,7 +69,7 @@ impl Queue {
         ensures waiter { find (is_query query) self.old ≡ Some result }
         ensures items { self.new ≡ without (is_query query) self.old }
     {
-        let index = index_of(&self.waiting, query).unwrap();
+        let index = self.index_of(query).unwrap();
         self.waiting.remove(index)
     }
 
@@ -79,7 +77,7 @@ impl Queue {
     pub fn due(&self, definitions: &Definitions, at: Moment) -> Option<u64>
         ensures value { result ≡ query_of (find (is_due definitions.now at) self.now) }
     {
-        self.waiting
+        self.waiters()
             .iter()
             .find(|w| is_due(definitions, w, at))
             .map(|w| w.query)
@@ -89,7 +87,7 @@ impl Queue {
     pub fn first_nowait(&self, definitions: &Definitions) -> Option<u64>
         ensures value { result ≡ query_of (find (is_nowait definitions.now) self.now) }
     {
-        self.waiting
+        self.waiters()
             .iter()
             .find(|w| is_nowait(definitions, w))
             .map(|w| w.query)
@@ -98,14 +96,15 @@ impl Queue {
     /// The query that is to be admitted next, if the room has a place for one. The room is asked once for each head.
     pub fn first_entitled<R: Room>(&self, definitions: &Definitions, room: &R) -> Option<u64>
         requires sound { IsSound definitions.now }
-        requires same { (R.stands room.now).definitions ≡ definitions.now }
+        requires same { R.definitions room.now ≡ definitions.now }
         requires known { are_pools_known definitions.now self.now ≡ true }
-        requires small { first_too_large (with_waiting (R.stands room.now) self.now) ≡ None }
-        ensures value { result ≡ query_of (first_entitled (with_waiting (R.stands room.now) self.now)) }
+        requires small { find (is_large definitions.now) self.now ≡ None }
+        ensures value { result ≡ query_of (first_in_queue definitions.now (R.holdings room.now) self.now) }
     {
+        let waiting = self.waiters();
         let mut candidates = Candidates::none();
-        for (i, w) in self.waiting.iter().enumerate() {
-            if has_earlier(&self.waiting, i, w.pool) {
+        for (i, w) in waiting.iter().enumerate() {
+            if has_earlier(waiting, i, w.pool) {
                 continue;
             }
             candidates = candidates.with(head_of(definitions, room, w));
@@ -118,7 +117,7 @@ impl Queue {
         ensures value { result ≡ place_of_query self.now query }
         ensures waits { is_some result ≡ has_query self.now query }
     {
-        index_of(&self.waiting, query).map(|index| index as u64 + 1)
+        self.index_of(query).map(|index| index as u64 + 1)
     }
 
     /// How many queries wait.
@@ -141,7 +140,7 @@ impl Queue {
         requires last { place ≤ length self.now }
         ensures waiter { slice_get self.now (place - 1) ≡ Some result }
     {
-        self.waiting[place as usize - 1]
+        self.waiters()[place as usize - 1]
     }
 
     /// The waiting queries, in the order in which they joined.
@@ -149,6 +148,6 @@ impl Queue {
         ensures items { result.now ≡ self.now }
         ensures most { length self.now ≤ SESSIONS_MOST }
     {
-        &self.waiting
+        self.waiting.rows()
     }
 }

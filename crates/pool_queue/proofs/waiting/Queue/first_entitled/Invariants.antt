@@ -5,5 +5,5 @@ use Rattle.pool_queue.proofs.waiting.Queue.first_entitled.Given as goal
 
 abbrev pub invariant-loop-i : goal.invariant-loop-i
 invariant-loop-i g l =
-    merged l.candidates (candidates_of (g.R.Room.stands l.room) (heads_behind (take l.i l.self) (drop l.i l.self)))
-    ≡ candidates_of (g.R.Room.stands l.room) (heads l.self)
+    merged l.candidates (candidates_of l.definitions (g.R.Room.holdings l.room) (heads_behind (take l.i l.self) (drop l.i l.self)))
+    ≡ candidates_of l.definitions (g.R.Room.holdings l.room) (heads l.self)
