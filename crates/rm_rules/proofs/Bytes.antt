@@ -187,3 +187,11 @@ debts-less old new (e ∷ es) less = omega (arith, debts-less old new es less, l
 pub lent-less : (h : Holdings) (new : List Holding) → ((p : Name) → used p new ≤ used p h.grants)
     → (let u : Holdings = record h { grants = new } in lent u ≤ lent h)
 lent-less h new less = omega (arith, debts-less h.grants new h.reserves less, less general)
+
+-- where no pool uses any bytes, nothing is lent
+debts-none : (grants : List Holding) (es : List Reserve) → ((p : Name) → used p grants ≡ 0) → sum_by (debt grants) es ≡ 0
+debts-none grants [] none = refl
+debts-none grants (e ∷ es) none = omega (arith, sum_by-cons (debt grants) e es, none e.pool, debts-none grants es none)
+
+pub lent-none : (h : Holdings) → ((p : Name) → used p h.grants ≡ 0) → lent h ≡ 0
+lent-none h none = omega (arith, none general, debts-none h.grants h.reserves none)

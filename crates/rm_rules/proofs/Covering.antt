@@ -1,6 +1,6 @@
 -- What admission, the shuffle, an end, a statement and the start leave of the bytes.
 use Rattle.std.proofs.Common.{◌≡◌, ℕ, ◌+◌, ◌≤◌, Bool, true, List, [], ◌∷◌, length, Some, Ok, refl, sym, ap, ◌∙◌, subst, arith, sum_by, map, max, eqb}
-use Rattle.std.specs.List.{find, list_all, list_any}
+use Rattle.std.specs.List.{find, list_any}
 use Rattle.std.proofs.lemmas.List.{length-map, map_push}
 use Rattle.std.proofs.lemmas.List.Sums.{sum_by-cons}
 use Rattle.rm_base.specs.declared.definitions.Definitions.{Definitions}
@@ -15,17 +15,18 @@ use Rattle.rm_rules.specs.declared.state.Runner.{Runner}
 use Rattle.rm_rules.specs.Definitions.{total, user_pools}
 use Rattle.rm_rules.specs.State.{State, start, none_ended, without, without_runner}
 use Rattle.rm_rules.specs.Holdings.{Holdings, holding, holdings, holdings_of, reserves_of}
-use Rattle.rm_rules.specs.Accounting.{held_in, debt, free, need, kept_back}
+use Rattle.rm_rules.specs.Accounting.{held_in, free, need, kept_back}
 use Rattle.rm_rules.specs.Admission.{admitted, started, first_entitled}
 use Rattle.rm_rules.specs.Shuffle.{shuffled, shuffled_state}
 use Rattle.rm_rules.specs.Acceptance.{accepted, is_judged, with_pool}
 use Rattle.rm_rules.specs.Change.{defined, runner_of}
-use Rattle.rm_rules.specs.Sound.{IsSound, has_pool}
+use Rattle.rm_rules.specs.Sound.{IsSound}
 use Rattle.rm_rules.specs.Healthy.{AreSized, AreThere, AreHeld, AreCovered}
-use Rattle.rm_rules.proofs.Taken.{all_push, all_among, sum_without}
+use Rattle.rm_rules.proofs.Taken.{all_push, sum_without}
 use Rattle.rm_rules.proofs.Pools.{reserve_names, sum_by-map}
-use Rattle.rm_rules.proofs.Bytes.{AreNamed, named, named-pool, with_grant, lent-push, lent-more, lent-less, reserve_names-of}
+use Rattle.rm_rules.proofs.Bytes.{AreNamed, named, named-pool, with_grant, lent-push, lent-more, lent-less, lent-none, reserve_names-of}
 use Rattle.rm_rules.proofs.Queue.{first_entitled_fits, enough}
+use Rattle.rm_rules.proofs.There.{waiting-there}
 use Rattle.rm_rules.proofs.Conserved.{granted-within}
 use Rattle.rm_rules.proofs.Shuffling.{covered-shuffle, force-shuffle, shuffle-names, shuffled-bytes}
 use Rattle.rm_rules.proofs.Defining.{accepted-row, places, there-with}
@@ -57,12 +58,10 @@ covered-admitted s w sound sized there covered picked =
     let d = s.definitions in
     let h = holdings_of s in
     let f = first_entitled_fits s w picked in
-    let waits : has_pool d w.pool ≡ true =
-    all_among (λ x. has_pool d x.pool) f.0.front f.0.rest w (subst (λ (l : List Waiter). list_all (λ x. has_pool d x.pool) l ≡ true) f.0.split there.waits) in
     let all = named s sound sized there in
     let more : AreNamed (with_grant h (holding (started s w))) = record {
       distinct = all.distinct;
-      known = all_push (λ g. list_any (same_name g.pool) (general ∷ reserve_names h.reserves)) h.grants (holding (started s w)) all.known (sym (named-pool s sound sized w.pool) ∙ waits);
+      known = all_push (λ g. list_any (same_name g.pool) (general ∷ reserve_names h.reserves)) h.grants (holding (started s w)) all.known (sym (named-pool s sound sized w.pool) ∙ waiting-there s w f.0 there);
     } in
     subst (AreCovered d) (sym (admitted-bytes s w)) (covered-push d h (holding (started s w)) more covered (enough d h w f.1))
 
@@ -141,10 +140,6 @@ held-defined s statement d judged is sound new sized there held =
 pub sized-start : (d : Definitions) (room : ℕ) → (let s = start d room in AreSized d s.actual s.counters)
 sized-start d room = record { sizes = length-map (user_pools d.pools) (λ r. r.memory); counts = length-map d.pools (λ _. none_ended) }
 
-debts-none : (es : List Reserve) → sum_by (debt []) es ≡ 0
-debts-none [] = refl
-debts-none (e ∷ es) = omega (arith, sum_by-cons (debt []) e es, debts-none es)
-
 kept-start : (rows : List PoolRow) → kept_back (reserves_of rows (map (λ r. r.memory) rows)) ≡ sum_by (λ r. r.memory) rows
 kept-start [] = refl
 kept-start (r ∷ rs) =
@@ -155,7 +150,7 @@ kept-start (r ∷ rs) =
       sum_by-cons (λ (x : PoolRow). x.memory) r rs,
     )
 
-user_memory-most : (pools : List PoolRow) → sum_by (λ r. r.memory) (user_pools pools) ≤ sum_by (λ r. r.memory) pools
+pub user_memory-most : (pools : List PoolRow) → sum_by (λ r. r.memory) (user_pools pools) ≤ sum_by (λ r. r.memory) pools
 user_memory-most [] = omega arith
 user_memory-most (r ∷ rs) = omega (arith, sum_by-cons (λ (x : PoolRow). x.memory) r rs)
 
@@ -164,7 +159,7 @@ covered-start d room sound =
     let h = holdings_of (start d room) in
     record {
       held = record {
-        within = omega (arith, kept-start (user_pools d.pools), debts-none h.reserves, user_memory-most d.pools, sound.reserved_most);
+        within = omega (arith, kept-start (user_pools d.pools), lent-none h (λ p. refl), user_memory-most d.pools, sound.reserved_most);
         granted = omega arith;
         in_force_most = sound.total_most;
       };

@@ -2,7 +2,7 @@
 use Rattle.std.proofs.Common.{◌≡◌, ℕ, ◌+◌, ◌-◌, ◌≤◌, ◌<◌, Bool, true, false, ◌||◌, cond, ltb, leb, eqb, List, [], ◌∷◌, Some, None, Option, refl, sym, ap, ◌∙◌, subst, arith, sum_by, ⊎_elim}
 use Rattle.std.specs.Prelude.{nat_le}
 use Rattle.std.specs.Int.Signed.{lt_z}
-use Rattle.std.specs.List.{find, list_all, list_any}
+use Rattle.std.specs.List.{list_all, list_any}
 use Rattle.std.specs.Option.{unwrap_or}
 use Rattle.std.proofs.lemmas.List.Sums.{sum_by-cons}
 use Rattle.std.proofs.lemmas.Bool.{cases_lt, false≢true, le-leb, eqb-true, ltb-true, or_right}
@@ -25,15 +25,16 @@ use Rattle.rm_rules.specs.Budget.{threshold}
 use Rattle.rm_rules.specs.Ask.{within, cap, narrowed, ask}
 use Rattle.rm_rules.specs.State.{State}
 use Rattle.rm_rules.specs.Holdings.{Holdings, holdings, holdings_of}
-use Rattle.rm_rules.specs.Accounting.{used, running_in, debt, unused, kept_back, unused_of, lent, free, need}
+use Rattle.rm_rules.specs.Accounting.{used, running_in, unused, kept_back, unused_of, lent, free, need}
 use Rattle.rm_rules.specs.Fit.{has_place, poolfit, can_lend}
 use Rattle.rm_rules.specs.Admission.{ask_of, judged_for, heads_behind, heads, put_in_order, in_queue_order, priority_of, is_entitled, is_blocked, first_among, first_entitled}
 use Rattle.rm_rules.specs.Sound.{IsSound, has_pool, begins_with_general, are_distinct}
 use Rattle.rm_rules.specs.Healthy.{AreSized, AreThere, AreCovered}
 use Rattle.rm_rules.proofs.Taken.{and_left, and_right, and_both, all_among, or_left_false, or_right_false}
 use Rattle.rm_rules.proofs.Pools.{names, reserve_names, worth, sum_by-map}
-use Rattle.rm_rules.proofs.Bytes.{apart, apart-rest, reserve_names-of, named-pool}
+use Rattle.rm_rules.proofs.Bytes.{apart, apart-rest, reserve_names-of, named-pool, lent-none}
 use Rattle.rm_rules.proofs.Queue.{heads_wait, ordered_among}
+use Rattle.rm_rules.proofs.Covering.{user_memory-most}
 use Rattle.rm_rules.proofs.AcceptanceLaws.{pool_row_in_range}
 use Rattle.rm_rules.proofs.Rests.{RestsAt, AllRest, Rests}
 
@@ -73,10 +74,6 @@ memory-found d (r ∷ rs) found =
       sum_by-cons (λ (x : PoolRow). memory_of d x.name) r rs,
       sum_by-cons (λ (x : PoolRow). x.memory) r rs,
     )
-
-user_memory-most : (pools : List PoolRow) → sum_by (λ r. r.memory) (user_pools pools) ≤ sum_by (λ r. r.memory) pools
-user_memory-most [] = omega arith
-user_memory-most (r ∷ rs) = omega (arith, sum_by-cons (λ (x : PoolRow). x.memory) r rs)
 
 memory-reserved : (d : Definitions) (es : List Reserve) → IsSound d → reserve_names es ≡ names (user_pools d.pools)
     → sum_by (λ e. memory_of d e.pool) es ≤ reserved d
@@ -191,14 +188,6 @@ ask-most d r user floor =
     let c : Cap = record { kind = Pool; bytes = cap d r } in
     let mid = narrowed c Query r.query_max in
     omega (arith, narrowed-most c Query r.query_max, narrowed-most mid User (memory_cap d user))
-
--- nothing is lent
-debts-none : (grants : List Holding) (es : List Reserve) → ((q : Name) → used q grants ≡ 0) → sum_by (debt grants) es ≡ 0
-debts-none grants [] none = refl
-debts-none grants (e ∷ es) none = omega (arith, sum_by-cons (debt grants) e es, none e.pool, debts-none grants es none)
-
-lent-none : (h : Holdings) → ((q : Name) → used q h.grants ≡ 0) → lent h ≡ 0
-lent-none h none = omega (arith, none general, debts-none h.grants h.reserves none)
 
 -- so where no query runs, what a pool's cap lets in is there
 need-free : (s : State) (w : Waiter) → IsSound s.definitions → AreSized s.definitions s.actual s.counters → AreCovered s.definitions (holdings_of s)

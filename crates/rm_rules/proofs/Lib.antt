@@ -10,6 +10,7 @@ pub mod Sizes
 pub mod AcceptanceLaws
 pub mod Bytes
 pub mod Queue
+pub mod There
 pub mod Conserved
 pub mod Shuffling
 pub mod Defining
@@ -27,7 +28,11 @@ pub mod Stepping
 pub mod Laws
 pub mod Forces
 pub mod Foreign
+pub mod Refusing
+pub mod Loud
 pub mod Rests
 pub mod Idle
-pub mod There
 pub mod SettledLaws
+pub mod Within
+pub mod Alone
+pub mod Grants

@@ -1,5 +1,5 @@
 -- Sizes at rest: the shuffle leaves them, and all sizes that it has left rest.
-use Rattle.std.proofs.Common.{◌≡◌, ℕ, ◌+◌, ◌-◌, ◌≤◌, ◌<◌, Bool, true, false, cond, ltb, List, [], ◌∷◌, ◌++◌, Some, refl, sym, ap, ◌∙◌, subst, arith, sum_by, map, min, max, ⊎_elim}
+use Rattle.std.proofs.Common.{◌≡◌, ℕ, ◌+◌, ◌-◌, ◌≤◌, ◌<◌, Bool, true, false, cond, ltb, List, [], ◌∷◌, ◌++◌, Some, refl, sym, ap, ◌∙◌, subst, arith, sum_by, min, max, ⊎_elim}
 use Rattle.std.proofs.lemmas.List.Sums.{sum_by-cons}
 use Rattle.std.proofs.lemmas.Bool.{cases_lt}
 use Rattle.std.proofs.lemmas.Bool.Decides.{nat_tests}
@@ -11,11 +11,11 @@ use Rattle.rm_rules.specs.declared.state.Waiter.{Waiter}
 use Rattle.rm_rules.specs.Definitions.{total, memory_of, user_pools}
 use Rattle.rm_rules.specs.State.{State}
 use Rattle.rm_rules.specs.Holdings.{Holdings, holding, holdings_of}
-use Rattle.rm_rules.specs.Accounting.{used, debt, free, need, taken_up}
+use Rattle.rm_rules.specs.Accounting.{used, debt, free, taken_up}
 use Rattle.rm_rules.specs.Admission.{admitted, started, first_entitled}
 use Rattle.rm_rules.specs.Shuffle.{resized, fallen_size, fallen, with_force, growth, grown_reserves, grown, shuffled, with_sizes, shuffled_state}
 use Rattle.rm_rules.specs.Sound.{IsSound}
-use Rattle.rm_rules.specs.Healthy.{AreSized, AreThere, AreHeld, AreCovered}
+use Rattle.rm_rules.specs.Healthy.{AreSized, AreThere, AreCovered}
 use Rattle.rm_rules.proofs.Bytes.{named, with_grant, used-push, lent-push, lent-more, debts-more, sizes-of}
 use Rattle.rm_rules.proofs.Queue.{first_entitled_fits, enough}
 use Rattle.rm_rules.proofs.Shuffling.{fallen_reserves, left_over, left_over-most, grown-whole, shuffled-bytes}

@@ -1,7 +1,7 @@
 -- What the shuffle keeps.
-use Rattle.std.proofs.Common.{◌≡◌, ℕ, ◌+◌, ◌-◌, ◌≤◌, ◌<◌, Bool, true, false, cond, ltb, List, [], ◌∷◌, refl, ap, ◌∙◌, arith, sum_by, map, min, max}
+use Rattle.std.proofs.Common.{◌≡◌, ℕ, ◌+◌, ◌-◌, ◌≤◌, ◌<◌, Bool, true, false, cond, ltb, List, [], ◌∷◌, ◌++◌, refl, sym, ap, ◌∙◌, append_assoc, append-nil, arith, sum_by, map, min, max}
 use Rattle.std.specs.List.{list_all, list_any}
-use Rattle.std.proofs.lemmas.List.Sums.{sum_by-cons}
+use Rattle.std.proofs.lemmas.List.Sums.{sum_by-cons, sum_by-append, sum_by_push}
 use Rattle.std.proofs.lemmas.Bool.Decides.{nat_tests}
 use Rattle.rm_base.specs.declared.definitions.Definitions.{Definitions}
 use Rattle.rm_base.specs.Name.{same_name, general}
@@ -11,7 +11,7 @@ use Rattle.rm_rules.specs.Definitions.{total, memory_of, user_pools}
 use Rattle.rm_rules.specs.State.{State}
 use Rattle.rm_rules.specs.Holdings.{Holdings, holdings_of}
 use Rattle.rm_rules.specs.Accounting.{used, debt, kept_back, taken_up, free}
-use Rattle.rm_rules.specs.Shuffle.{resized, fallen_size, fallen, with_force, growth, grown_reserves, grown, shuffled, shuffled_state}
+use Rattle.rm_rules.specs.Shuffle.{resized, fallen_size, fallen, with_force, growth, grown_reserves, grown, grown_anew, shuffled, shuffled_state}
 use Rattle.rm_rules.specs.Sound.{IsSound, are_distinct}
 use Rattle.rm_rules.specs.Healthy.{AreSized, AreHeld, AreCovered}
 use Rattle.rm_rules.proofs.Pools.{reserve_names}
@@ -107,6 +107,44 @@ grown-whole d grants spare (e ∷ es) =
       sum_by-cons (λ (x : Reserve). x.size) e es,
       sum_by-cons (debt grants) e es,
     )
+
+-- what one pool leaves free is what is free, counted anew
+free-turn : (d : Definitions) (h : Holdings) (done : List Reserve) (e : Reserve) (es : List Reserve)
+    → (let now : Holdings = record h { reserves = done ++ e ∷ es } in
+    let more = growth d h.grants (free now) e in
+    let next : Holdings = record h { reserves = (done ++ resized e (e.size + more) ∷ []) ++ es } in
+    taken_up now ≤ h.in_force → (free next ≡ free now - (more - debt h.grants e)) × (taken_up next ≤ h.in_force))
+free-turn d h done e es within =
+    let now : Holdings = record h { reserves = done ++ e ∷ es } in
+    let more = growth d h.grants (free now) e in
+    let then = resized e (e.size + more) in
+    let turn = grown-turn (used e.pool h.grants) e.size (memory_of d e.pool) (free now) in
+    let size = λ (x : Reserve). x.size in
+    let kept_now = sum_by-append size done (e ∷ es) in
+    let kept_next = sum_by-append size (done ++ then ∷ []) es in
+    let debts_now = sum_by-append (debt h.grants) done (e ∷ es) in
+    let debts_next = sum_by-append (debt h.grants) (done ++ then ∷ []) es in
+    let kept_e = sum_by-cons size e es in
+    let kept_then = sum_by_push size done then in
+    let debts_e = sum_by-cons (debt h.grants) e es in
+    let debts_then = sum_by_push (debt h.grants) done then in
+    (omega (arith, within, turn), omega (arith, within, turn))
+
+carries : (d : Definitions) (h : Holdings) (done es : List Reserve)
+    → (let now : Holdings = record h { reserves = done ++ es } in
+    taken_up now ≤ h.in_force → grown_anew d h done es ≡ done ++ grown_reserves d h.grants (free now) es)
+carries d h done [] within = sym (append-nil done)
+carries d h done (e ∷ es) within =
+    let now : Holdings = record h { reserves = done ++ e ∷ es } in
+    let more = growth d h.grants (free now) e in
+    let then = resized e (e.size + more) in
+    let next = free-turn d h done e es within in
+    carries d h (done ++ then ∷ []) es next.1
+    ∙ ap (λ (n : ℕ). (done ++ then ∷ []) ++ grown_reserves d h.grants n es) next.0
+    ∙ append_assoc done (then ∷ []) (grown_reserves d h.grants (free now - (more - debt h.grants e)) es)
+
+pub carries-all : (d : Definitions) (h : Holdings) → taken_up h ≤ h.in_force → grown_anew d h [] h.reserves ≡ (grown d h).reserves
+carries-all d h within = carries d h [] h.reserves within
 
 -- what is reserved and lent grows by what was free at most, and does not fall
 record GrowsBy (spare before after : ℕ) : Type 0 where

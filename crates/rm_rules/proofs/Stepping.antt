@@ -69,7 +69,7 @@ stays-turn : (t : State) (answer : Answer) (b : Bool) → is_defining answer ≡
 stays-turn t answer true is plain h = absurd (false≢true (sym plain))
 stays-turn t answer false is plain h = to_unsettled 1 0 t h
 
-or-false : (b : Bool) → (b || false) ≡ true → b ≡ true
+pub or-false : (b : Bool) → (b || false) ≡ true → b ≡ true
 or-false true h = refl
 or-false false h = h
 

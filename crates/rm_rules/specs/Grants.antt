@@ -68,11 +68,16 @@ freed_by s (Submit session floor) answer = None
 freed_by s (Poll session) answer = None
 freed_by s (Finish session) answer = option_and_then (λ grant. query_of s session) (released answer)
 
+-- the query waited, or this event submitted it
+abbrev pub HasWaited : State → Runner → Type 0
+HasWaited old r =
+    ((w : Waiter) × (waiter_called old.waiting r.query ≡ Some w) × (w.pool ≡ r.pool) × (w.user ≡ r.user) × (w.floor ≡ r.floor))
+    ⊎ (r.query ≡ old.last_query + 1)
+
 -- A query that runs now and did not before: it waited, or this event submitted it, it has its ask by the definitions in
 -- force, and with it its pool's use is within the pool's cap.
 pub record IsAdmitted (old new : State) (r : Runner) : Type 0 where
-  pub waited : ((w : Waiter) × (waiter_called old.waiting r.query ≡ Some w) × (w.pool ≡ r.pool) × (w.user ≡ r.user) × (w.floor ≡ r.floor))
-      ⊎ (r.query ≡ old.last_query + 1)
+  pub waited : HasWaited old r
   pub grant : r.grant ≡ ask new.definitions (pool_row new.definitions r.pool) r.user r.floor
   pub start : r.start ≡ new.clock
   pub within : used r.pool (holdings new.running) ≤ cap new.definitions (pool_row new.definitions r.pool)

@@ -1,5 +1,5 @@
 -- The shuffle: actual sizes follow the declared ones as far as bytes in use let them, and the memory in force the total.
-use Rattle.std.specs.Prelude.{ℕ, ◌+◌, ◌-◌, nat_lt, List, [], ◌∷◌, map, min, max, if◌then◌else◌}
+use Rattle.std.specs.Prelude.{ℕ, ◌+◌, ◌-◌, nat_lt, List, [], ◌∷◌, ◌++◌, map, min, max, if◌then◌else◌}
 use Rattle.rm_base.specs.declared.definitions.Definitions.{Definitions}
 use Rattle.rm_rules.specs.declared.state.Holding.{Holding}
 use Rattle.rm_rules.specs.declared.state.Reserve.{Reserve}
@@ -39,6 +39,14 @@ grown_reserves d grants spare (e ∷ es) =
 
 abbrev pub grown : Definitions → Holdings → Holdings
 grown d h = record h { reserves = grown_reserves d h.grants (free h) h.reserves }
+
+-- The same sizes, these pools standing behind those that are done: what is free is counted anew for each. That these are
+-- the sizes above is a law.
+abbrev pub grown_anew : Definitions → Holdings → List Reserve → List Reserve → List Reserve
+grown_anew d h done [] = done
+grown_anew d h done (e ∷ es) =
+    let now : Holdings = record h { reserves = done ++ e ∷ es } in
+    grown_anew d h (done ++ resized e (e.size + growth d h.grants (free now) e) ∷ []) es
 
 -- the bytes after the shuffle under these definitions
 abbrev pub shuffled : Definitions → Holdings → Holdings

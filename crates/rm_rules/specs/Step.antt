@@ -2,7 +2,9 @@
 use Rattle.std.specs.Prelude.{◌≡◌, ℕ, Bool, true, false, ◌||◌, [], ◌∷◌, ◌++◌, List, is_some, max, if◌then◌else◌}
 use Rattle.rm_base.specs.declared.entry.Entry.{Entry}
 use Rattle.rm_base.specs.declared.event.Event.{Event}
+use Rattle.rm_base.specs.declared.refusal.Refusal.{Refusal}
 use Rattle.rm_base.specs.declared.reply.Reply.{Reply}
+use Rattle.rm_base.specs.declared.reply.Reply.TheVariants as reply
 use Rattle.rm_rules.specs.declared.answer.Answer.{Answer}
 use Rattle.rm_rules.specs.State.{State}
 use Rattle.rm_rules.specs.Settle.{settled}
@@ -65,6 +67,11 @@ step s seat at event = outcome s (has_due s at) seat event (attempted (found_at 
 -- the entry that an event makes, or none
 abbrev pub made : State → ℕ → ℕ → Event → List Entry
 made s seat at event = let o = step s seat at event in if o.entry then noted seat (max s.clock at) event o.reply ∷ [] else []
+
+-- what a refused event leaves: the state as it was, or what deadlines that had come made of it, with an entry
+abbrev pub left_refused : State → ℕ → ℕ → Event → Refusal → State
+left_refused s seat at event refusal =
+    if has_due s at then recorded (settled (found_at s at)) (noted seat (max s.clock at) event (reply.Refused refusal)) else s
 
 -- two states that differ in the clock and the journal alone
 abbrev pub IsSameButClock : State → State → Type 0

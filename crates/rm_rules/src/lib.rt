@@ -3,6 +3,7 @@
 
 pub mod acceptance;
 pub mod answer;
+pub mod free_bytes;
 pub mod readings;
 pub mod room;
 pub mod state;

@@ -1,0 +1,514 @@
+-- What an event does to the grants of the running queries.
+use Rattle.std.proofs.Common.{◌≡◌, ℕ, ◌+◌, ◌≤◌, Bool, true, false, ◌||◌, cond, eqb, List, [], ◌∷◌, ◌++◌, Some, None, Option, inl, inr, ◌⊎◌, refl, sym, ap, ◌∙◌, subst, arith, append_assoc, append-nil, count_by}
+use Rattle.std.specs.Prelude.{◌≢◌, option_map, option_and_then}
+use Rattle.std.specs.List.{find}
+use Rattle.std.proofs.lemmas.List.Sums.{sum_by-cons}
+use Rattle.std.proofs.lemmas.Bool.{eqb-true, eq-eqb, false≢true}
+use Rattle.rm_base.specs.declared.definitions.Definitions.{Definitions}
+use Rattle.rm_base.specs.declared.event.Event.{Event}
+use Rattle.rm_base.specs.declared.event.Event.TheVariants.{Define, Open, SetPool, Submit, Poll, Finish}
+use Rattle.rm_base.specs.declared.reply.End.{End}
+use Rattle.rm_base.specs.declared.refusal.Refusal.{Refusal}
+use Rattle.rm_base.specs.declared.reply.Reply.{Reply}
+use Rattle.rm_base.specs.declared.reply.Reply.TheVariants as reply
+use Rattle.rm_rules.specs.declared.answer.Answer.{Answer}
+use Rattle.rm_rules.specs.declared.state.Session.{Session}
+use Rattle.rm_rules.specs.declared.state.Waiter.{Waiter}
+use Rattle.rm_rules.specs.declared.state.Runner.{Runner}
+use Rattle.rm_rules.specs.Definitions.{pool_row}
+use Rattle.rm_rules.specs.Ask.{cap, ask}
+use Rattle.rm_rules.specs.State.{State, without, without_waiter, without_runner, session_pool, phase_of, is_running}
+use Rattle.rm_rules.specs.Holdings.{holdings}
+use Rattle.rm_rules.specs.Accounting.{used}
+use Rattle.rm_rules.specs.Admission.{started, admitted, first_entitled}
+use Rattle.rm_rules.specs.Shuffle.{shuffled_state}
+use Rattle.rm_rules.specs.Deadlines.{ended_as}
+use Rattle.rm_rules.specs.Settle.{settled}
+use Rattle.rm_rules.specs.Change.{Change, runner_of, grant_of, new_waiter, defined, opened, submitted, collected, finished}
+use Rattle.rm_rules.specs.Answers.{told, reply_of, answered}
+use Rattle.rm_rules.specs.Step.{Outcome, entered, moved_to, has_due, found_at, attempted, step}
+use Rattle.rm_rules.specs.Replay.{IsFormed}
+use Rattle.rm_rules.specs.Healthy.{AreInPhase, AreNumbered, IsHealthy}
+use Rattle.rm_rules.specs.Grants.{runner_called, waiter_called, grant_called, query_of, released, freed_by, HasWaited, IsAdmitted, KeepsGrants}
+use Rattle.rm_rules.proofs.Taken.{found_passes, found_counted, found_single, counted_among, sum_without, or_right_false}
+use Rattle.rm_rules.proofs.Queue.{IsAmong, found_among}
+use Rattle.rm_rules.proofs.SettledLaws.{none_without}
+use Rattle.rm_rules.proofs.Settling.{entitled-among, due-keeps, settled-keeps, rest-settled, rest-due}
+use Rattle.rm_rules.proofs.Within.{found-behind, within-settled}
+use Rattle.rm_rules.proofs.Changing.{IsTried, stays, changes, IsQuiet, refuses, repeats, tells, IsChange, defines, opens, chooses, submits, collects, finishes, choice_made, session_of-is, session_of-found, tried-is}
+use Rattle.rm_rules.proofs.Phases.{one_if-most, phase_of-found}
+use Rattle.rm_rules.proofs.Keeping.{runner_found}
+use Rattle.rm_rules.proofs.Answering.{beside-answered}
+use Rattle.rm_rules.proofs.Stepping.{moved-facts, found-facts, unsettled-tried, outcome-turn}
+
+-- what is found in front is found, and what is found is in front or the last
+front-turn : {A : Type 0} (test : A → Bool) (x y : A) (xs ys : List A) (b : Bool) → cond b (Some x) (find test xs) ≡ Some y
+    → (find test xs ≡ Some y → find test (xs ++ ys) ≡ Some y) → cond b (Some x) (find test (xs ++ ys)) ≡ Some y
+front-turn test x y xs ys true found rest = found
+front-turn test x y xs ys false found rest = rest found
+
+found-front : {A : Type 0} (test : A → Bool) (y : A) (xs ys : List A) → find test xs ≡ Some y → find test (xs ++ ys) ≡ Some y
+found-front test y [] ys found = let none : None ≡ Some y = found in absurd (cc)
+found-front test y (x ∷ xs) ys found = front-turn test x y xs ys (test x) found (found-front test y xs ys)
+
+last-turn : {A : Type 0} (test : A → Bool) (x y z : A) (xs : List A) (b : Bool) → cond b (Some x) (find test (xs ++ z ∷ [])) ≡ Some y
+    → (find test (xs ++ z ∷ []) ≡ Some y → (find test xs ≡ Some y) ⊎ (y ≡ z)) → (cond b (Some x) (find test xs) ≡ Some y) ⊎ (y ≡ z)
+last-turn test x y z xs true found rest = inl found
+last-turn test x y z xs false found rest = rest found
+
+one-turn : {A : Type 0} (y z : A) (b : Bool) → cond b (Some z) None ≡ Some y → y ≡ z
+one-turn y z true found = cc
+one-turn y z false found = absurd (cc)
+
+found-push : {A : Type 0} (test : A → Bool) (y z : A) (xs : List A) → find test (xs ++ z ∷ []) ≡ Some y → (find test xs ≡ Some y) ⊎ (y ≡ z)
+found-push test y z [] found = inr (one-turn y z (test z) found)
+found-push test y z (x ∷ xs) found = last-turn test x y z xs (test x) found (found-push test y z xs)
+
+-- what another test does not take is found as before
+kept-turn : {A : Type 0} (test other : A → Bool) (x y : A) (xs : List A) (b c : Bool) → other x ≡ b → test x ≡ c → cond c (Some x) (find test xs) ≡ Some y → other y ≡ false
+    → (find test xs ≡ Some y → find test (without other xs) ≡ Some y) → find test (cond b xs (x ∷ without other xs)) ≡ Some y
+kept-turn test other x y xs true true e f found apart rest = let same : x ≡ y = cc in absurd (false≢true (sym apart ∙ ap other (sym same) ∙ e))
+kept-turn test other x y xs true false e f found apart rest = found
+kept-turn test other x y xs false true e f found apart rest = ap (λ b. cond b (Some x) (find test (without other xs))) f ∙ found
+kept-turn test other x y xs false false e f found apart rest = ap (λ b. cond b (Some x) (find test (without other xs))) f ∙ rest found
+
+found-kept : {A : Type 0} (test other : A → Bool) (y : A) (xs : List A) → find test xs ≡ Some y → other y ≡ false → find test (without other xs) ≡ Some y
+found-kept test other y [] found apart = let none : None ≡ Some y = found in absurd (cc)
+found-kept test other y (x ∷ xs) found apart = kept-turn test other x y xs (other x) (test x) refl refl found apart (λ more. found-kept test other y xs more apart)
+
+-- what is left of a list is of the list
+further : (w x : Waiter) (ws : List Waiter) → IsAmong w ws → IsAmong w (x ∷ ws)
+further w x ws among = record { front = x ∷ among.front; rest = among.rest; split = ap (λ l. x ∷ l) among.split }
+
+first-or : (w x : Waiter) (ws front rest : List Waiter) → x ∷ ws ≡ front ++ w ∷ rest → (x ≡ w) ⊎ IsAmong w ws
+first-or w x ws [] rest split = let same : x ≡ w = cc in inl same
+first-or w x ws (y ∷ front) rest split = let tail : ws ≡ front ++ w ∷ rest = cc in inr (record { front = front; rest = rest; split = tail })
+
+left-turn : (test : Waiter → Bool) (w x : Waiter) (ws : List Waiter) (b : Bool) → (IsAmong w (without test ws) → IsAmong w ws)
+    → IsAmong w (cond b ws (x ∷ without test ws)) → IsAmong w (x ∷ ws)
+left-turn test w x ws true rest among = further w x ws among
+left-turn test w x ws false rest among = turn (first-or w x (without test ws) among.front among.rest among.split) where
+  turn : (x ≡ w) ⊎ IsAmong w (without test ws) → IsAmong w (x ∷ ws)
+  turn (inl same) = record { front = []; rest = ws; split = ap (λ z. z ∷ ws) same }
+  turn (inr more) = further w x ws (rest more)
+
+among-without : (test : Waiter → Bool) (w : Waiter) (ws : List Waiter) → IsAmong w (without test ws) → IsAmong w ws
+among-without test w [] among = among
+among-without test w (x ∷ ws) among = left-turn test w x ws (test x) (among-without test w ws) among
+
+among-push : (w y : Waiter) (ws : List Waiter) → IsAmong w (ws ++ y ∷ []) → IsAmong w ws ⊎ (w ≡ y)
+among-push w y [] among = turn (first-or w y [] among.front among.rest among.split) where
+  turn : (y ≡ w) ⊎ IsAmong w [] → IsAmong w [] ⊎ (w ≡ y)
+  turn (inl same) = inr (sym same)
+  turn (inr none) = inl none
+among-push w y (x ∷ ws) among = push-turn w x y ws (first-or w x (ws ++ y ∷ []) among.front among.rest among.split) (among-push w y ws) where
+  push-turn : (w x y : Waiter) (ws : List Waiter) → (x ≡ w) ⊎ IsAmong w (ws ++ y ∷ []) → (IsAmong w (ws ++ y ∷ []) → IsAmong w ws ⊎ (w ≡ y)) → IsAmong w (x ∷ ws) ⊎ (w ≡ y)
+  push-turn w x y ws (inl same) rest = inl (record { front = []; rest = ws; split = ap (λ z. z ∷ ws) same })
+  push-turn w x y ws (inr more) rest = behind (rest more) where
+    behind : IsAmong w ws ⊎ (w ≡ y) → IsAmong w (x ∷ ws) ⊎ (w ≡ y)
+    behind (inl here) = inl (further w x ws here)
+    behind (inr new) = inr new
+
+-- a waiting query is what its number finds
+number-counted : (w : Waiter) (ws : List Waiter) → IsAmong w ws → 1 ≤ count_by (λ x. eqb x.query w.query) ws
+number-counted w ws among =
+    subst (λ (l : List Waiter). 1 ≤ count_by (λ x. eqb x.query w.query) l) (sym among.split)
+    (counted_among (λ x. eqb x.query w.query) among.front among.rest w (eq-eqb w.query w.query refl))
+
+number-found : (last : ℕ) (waiting : List Waiter) (running : List Runner) (w : Waiter) → AreNumbered last waiting running → IsAmong w waiting
+    → waiter_called waiting w.query ≡ Some w
+number-found last waiting running w h among =
+    let found = found_counted (λ (x : Waiter). eqb x.query w.query) waiting (number-counted w waiting among) in
+    let few : count_by (λ (x : Waiter). eqb x.query w.query) waiting ≤ 1 = omega (arith, h.once w.query) in
+    let same : w ≡ found.0 =
+    found_single (λ (x : Waiter). eqb x.query w.query) among.front among.rest w found.0 (eq-eqb w.query w.query refl)
+    (subst (λ (l : List Waiter). count_by (λ x. eqb x.query w.query) l ≤ 1) among.split few)
+    (subst (λ (l : List Waiter). find (λ x. eqb x.query w.query) l ≡ Some found.0) among.split found.1) in
+    found.1 ∙ ap (λ z. Some z) (sym same)
+
+-- a query that began to run was a waiting one
+pub record Came (c : State) (r : Runner) : Type 0 where
+  pub waiter : Waiter
+  pub among : IsAmong waiter c.waiting
+  pub is : r ≡ started c waiter
+
+-- what settling makes of the running and the waiting queries
+pub record HasCome (c t : State) : Type 0 where
+  pub definitions : t.definitions ≡ c.definitions
+  pub clock : t.clock ≡ c.clock
+  pub waits : (w : Waiter) → IsAmong w t.waiting → IsAmong w c.waiting
+  pub more : List Runner
+  pub split : t.running ≡ c.running ++ more
+  pub came : (query : ℕ) (r : Runner) → runner_called more query ≡ Some r → Came c r
+
+came-admitted : (c t : State) (w : Waiter) → first_entitled t ≡ Some w → HasCome c t → HasCome c (admitted t w)
+came-admitted c t w picked h = record {
+  definitions = h.definitions;
+  clock = h.clock;
+  waits = λ y among. h.waits y (among-without (λ x. eqb x.session w.session) y t.waiting among);
+  more = h.more ++ started t w ∷ [];
+  split = ap (λ l. l ++ started t w ∷ []) h.split ∙ append_assoc c.running h.more (started t w ∷ []);
+  came = λ query r found. turn query r (found-push (λ (x : Runner). eqb x.query query) r (started t w) h.more found);
+} where
+  turn : (query : ℕ) (r : Runner) → (runner_called h.more query ≡ Some r) ⊎ (r ≡ started t w) → Came c r
+  turn query r (inl before) = h.came query r before
+  turn query r (inr new) = record {
+    waiter = w;
+    among = h.waits w (entitled-among t w picked);
+    is =
+        new ∙ ap (λ d. let u : State = record t { definitions = d } in started u w) h.definitions
+        ∙ ap (λ k. let u : State = record t { definitions = c.definitions; clock = k } in started u w) h.clock;
+  }
+
+pub come-settled : (c : State) → HasCome c (settled c)
+come-settled c =
+    settled-keeps (HasCome c)
+    (λ t w end among h. record {
+      definitions = h.definitions;
+      clock = h.clock;
+      waits = λ y left. h.waits y (among-without (λ x. eqb x.session w.session) y t.waiting left);
+      more = h.more;
+      split = h.split;
+      came = h.came;
+    })
+    (λ t h. record { definitions = h.definitions; clock = h.clock; waits = h.waits; more = h.more; split = h.split; came = h.came })
+    (λ t w picked h. came-admitted c t w picked h)
+    c
+    (record { definitions = refl; clock = refl; waits = λ w among. among; more = []; split = sym (append-nil c.running); came = λ query r found. absurd (let none : None ≡ Some r = found in cc) })
+
+-- What a change does to the running and the waiting queries: the query of one number ends, or none. It waits no more, and
+-- no other comes or goes but a new one that waits.
+pub record Turned (s c : State) (freed : Option ℕ) : Type 0 where
+  pub kept : (query : ℕ) (r : Runner) → runner_called s.running query ≡ Some r → freed ≢ Some query → runner_called c.running query ≡ Some r
+  pub gone : (query : ℕ) → freed ≡ Some query → runner_called c.running query ≡ None
+  pub waits_not : (query : ℕ) → freed ≡ Some query → (w : Waiter) → IsAmong w c.waiting → w.query ≡ query → ⊥
+  pub none : (query : ℕ) → runner_called s.running query ≡ None → runner_called c.running query ≡ None
+  pub waits : (w : Waiter) → IsAmong w c.waiting → IsAmong w s.waiting ⊎ (w.query ≡ s.last_query + 1)
+
+-- where no query ends and none is new
+turned-same : (s c : State) → c.running ≡ s.running → c.waiting ≡ s.waiting → Turned s c None
+turned-same s c running waiting = record {
+  kept = λ query r found none. ap (λ l. runner_called l query) running ∙ found;
+  gone = λ query none. absurd (cc);
+  waits_not = λ query none w among is. absurd (let e : None ≡ Some query = none in cc);
+  none = λ query found. ap (λ l. runner_called l query) running ∙ found;
+  waits = λ w among. inl (subst (IsAmong w) waiting among);
+}
+
+turned-submitted : (s c : State) (y : Waiter) → c.running ≡ s.running → c.waiting ≡ s.waiting ++ y ∷ [] → y.query ≡ s.last_query + 1 → Turned s c None
+turned-submitted s c y running waiting next = record {
+  kept = λ query r found none. ap (λ l. runner_called l query) running ∙ found;
+  gone = λ query none. absurd (cc);
+  waits_not = λ query none w among is. absurd (let e : None ≡ Some query = none in cc);
+  none = λ query found. ap (λ l. runner_called l query) running ∙ found;
+  waits = λ w among. turn w (among-push w y s.waiting (subst (IsAmong w) waiting among));
+} where
+  turn : (w : Waiter) → IsAmong w s.waiting ⊎ (w ≡ y) → IsAmong w s.waiting ⊎ (w.query ≡ s.last_query + 1)
+  turn w (inl before) = inl before
+  turn w (inr new) = inr (ap (λ (z : Waiter). z.query) new ∙ next)
+
+-- where what is found stands
+split-turn : {A : Type 0} (test : A → Bool) (x y : A) (xs : List A) (b : Bool) → cond b (Some x) (find test xs) ≡ Some y
+    → (find test xs ≡ Some y → (front : List A) × ((rest : List A) × (xs ≡ front ++ y ∷ rest))) → (front : List A) × ((rest : List A) × (x ∷ xs ≡ front ++ y ∷ rest))
+split-turn test x y xs true found more = let same : x ≡ y = cc in ([], (xs, ap (λ z. z ∷ xs) same))
+split-turn test x y xs false found more = let there = more found in (x ∷ there.0, (there.1.0, ap (λ l. x ∷ l) there.1.1))
+
+found-split : {A : Type 0} (test : A → Bool) (y : A) (xs : List A) → find test xs ≡ Some y → (front : List A) × ((rest : List A) × (xs ≡ front ++ y ∷ rest))
+found-split test y [] found = let none : None ≡ Some y = found in absurd (cc)
+found-split test y (x ∷ xs) found = split-turn test x y xs (test x) found (found-split test y xs)
+
+-- so where one alone passes a test, two that pass it are one
+pub found-same : {A : Type 0} (test other : A → Bool) (y z : A) (xs : List A) → find test xs ≡ Some y → other y ≡ true → count_by other xs ≤ 1 → find other xs ≡ Some z → y ≡ z
+found-same {A} test other y z xs found passes few there =
+    let split = found-split test y xs found in
+    found_single other split.0 split.1.0 y z passes
+    (subst (λ (l : List A). count_by other l ≤ 1) split.1.1 few) (subst (λ (l : List A). find other l ≡ Some z) split.1.1 there)
+
+-- where none passes, none is found
+none-turn : {A : Type 0} (test : A → Bool) (x : A) (xs : List A) (b : Bool) → test x ≡ b → count_by test (x ∷ xs) ≡ 0 → (count_by test xs ≡ 0 → find test xs ≡ None)
+    → cond b (Some x) (find test xs) ≡ None
+none-turn test x xs true e none rest = absurd (omega (arith, none, sum_by-cons (λ z. cond (test z) 1 0) x xs, ap {B = ℕ} (λ b. cond b 1 0) e))
+none-turn test x xs false e none rest = rest (omega (arith, none, sum_by-cons (λ z. cond (test z) 1 0) x xs, ap {B = ℕ} (λ b. cond b 1 0) e))
+
+none-counted : {A : Type 0} (test : A → Bool) (xs : List A) → count_by test xs ≡ 0 → find test xs ≡ None
+none-counted test [] none = refl
+none-counted test (x ∷ xs) none = none-turn test x xs (test x) refl none (none-counted test xs)
+
+some-counted : {A : Type 0} (test : A → Bool) (y : A) (xs : List A) → find test xs ≡ Some y → 1 ≤ count_by test xs
+some-counted {A} test y xs found =
+    let split = found-split test y xs found in
+    subst (λ (l : List A). 1 ≤ count_by test l) (sym split.1.1) (counted_among test split.0 split.1.0 y (found_passes test y xs found))
+
+-- a running query is what its number finds
+runner-number : (s : State) (n : ℕ) (r : Runner) → runner_of s.running n ≡ Some r → AreNumbered s.last_query s.waiting s.running → runner_called s.running r.query ≡ Some r
+runner-number s n r found numbered =
+    let by_number = λ (x : Runner). eqb x.query r.query in
+    let split = found-split (λ (x : Runner). eqb x.session n) r s.running found in
+    let counted : 1 ≤ count_by (λ (x : Runner). eqb x.query r.query) s.running =
+    subst (λ (l : List Runner). 1 ≤ count_by (λ x. eqb x.query r.query) l) (sym split.1.1)
+    (counted_among (λ (x : Runner). eqb x.query r.query) split.0 split.1.0 r (eq-eqb r.query r.query refl)) in
+    let few : count_by (λ (x : Runner). eqb x.query r.query) s.running ≤ 1 = omega (arith, numbered.once r.query) in
+    let there = found_counted (λ (x : Runner). eqb x.query r.query) s.running counted in
+    let same : r ≡ there.0 = found-same (λ (x : Runner). eqb x.session n) by_number r there.0 s.running found (eq-eqb r.query r.query refl) few there.1 in
+    there.1 ∙ ap (λ y. Some y) (sym same)
+
+-- where the running query of a session ends
+turned-finished : (s c : State) (n : ℕ) (r : Runner) → c.running ≡ without_runner n s.running → c.waiting ≡ s.waiting → runner_of s.running n ≡ Some r
+    → count_by (λ (x : Runner). eqb x.session n) s.running ≤ 1 → AreNumbered s.last_query s.waiting s.running → Turned s c (Some r.query)
+turned-finished s c n r running waiting found few numbered =
+    let of_session = λ (x : Runner). eqb x.session n in
+    let counted : 1 ≤ count_by (λ (x : Runner). eqb x.query r.query) s.running =
+    let split = found-split of_session r s.running found in
+    subst (λ (l : List Runner). 1 ≤ count_by (λ x. eqb x.query r.query) l) (sym split.1.1)
+    (counted_among (λ (x : Runner). eqb x.query r.query) split.0 split.1.0 r (eq-eqb r.query r.query refl)) in
+    let one : cond {A = ℕ} (eqb r.query r.query) 1 0 ≡ 1 = ap {B = ℕ} (λ b. cond b 1 0) (eq-eqb r.query r.query refl) in
+    let gone : (let o : Option Runner = None in runner_called (without_runner n s.running) r.query ≡ o) =
+    none-counted (λ (x : Runner). eqb x.query r.query) (without_runner n s.running)
+    (omega (arith, numbered.once r.query, one, sum_without (λ (x : Runner). cond (eqb x.query r.query) 1 0) of_session r s.running found)) in
+    record {
+      kept = λ query y called other. ap (λ l. runner_called l query) running ∙ kept query y called other (eqb y.session n) refl;
+      gone = λ query is. let same : r.query ≡ query = cc in ap (λ l. runner_called l query) running ∙ subst (λ k. runner_called (without_runner n s.running) k ≡ None) same gone;
+      waits_not = λ query is w among number.
+          let same : r.query ≡ query = cc in
+          let waits : 1 ≤ count_by (λ (x : Waiter). eqb x.query r.query) s.waiting =
+          subst (λ k. 1 ≤ count_by (λ (x : Waiter). eqb x.query k) s.waiting) (number ∙ sym same) (number-counted w s.waiting (subst (IsAmong w) waiting among)) in
+          omega (arith, waits, counted, numbered.once r.query);
+      none = λ query called. ap (λ l. runner_called l query) running ∙ none_without (λ (x : Runner). eqb x.query query) (λ x. eqb x.session n) s.running called;
+      waits = λ w among. inl (subst (IsAmong w) waiting among);
+    } where
+  kept : (query : ℕ) (y : Runner) → runner_called s.running query ≡ Some y → (let o : Option ℕ = Some r.query in o ≢ Some query) → (b : Bool) → eqb y.session n ≡ b
+      → runner_called (without_runner n s.running) query ≡ Some y
+  kept query y called other true here =
+      let same : y ≡ r = found-same (λ (x : Runner). eqb x.query query) (λ x. eqb x.session n) y r s.running called here few found in
+      let number : y.query ≡ query = eqb-true y.query query (found_passes (λ (x : Runner). eqb x.query query) y s.running called) in
+      absurd (other (ap (λ k. Some k) (ap (λ (z : Runner). z.query) (sym same) ∙ number)))
+  kept query y called other false here = found-kept (λ (x : Runner). eqb x.query query) (λ x. eqb x.session n) y s.running called here
+
+-- what a change frees is the grant that its reply says
+pub record Frees (s : State) (event : Event) (answer : Reply) (c : State) : Type 0 where
+  pub turned : Turned s c (freed_by s event answer)
+  pub says : (query : ℕ) → freed_by s event answer ≡ Some query → grant_called s.running query ≡ released answer
+
+frees-none : (s : State) (event : Event) (answer : Reply) (c : State) → (let o : Option ℕ = None in freed_by s event answer ≡ o) → Turned s c None → Frees s event answer c
+frees-none s event answer c none turned = record {
+  turned = subst (Turned s c) (sym none) turned;
+  says = λ query is. absurd (let e : None ≡ Some query = sym none ∙ is in cc);
+}
+
+refused-none : (s : State) (event : Event) (r : Refusal) → (let o : Option ℕ = None in freed_by s event (reply.Refused r) ≡ o)
+refused-none s (Define statement) r = refl
+refused-none s (Open user) r = refl
+refused-none s (SetPool session pool) r = refl
+refused-none s (Submit session floor) r = refl
+refused-none s (Poll session) r = refl
+refused-none s (Finish session) r = refl
+
+frees-quiet : (s u : State) (seat : ℕ) (event : Event) (answer : Answer) → IsQuiet s seat event answer → Frees s event (reply_of u answer) s
+frees-quiet s u seat _ _ (refuses event r is) = frees-none s event (reply.Refused r) s (refused-none s event r) (turned-same s s refl refl)
+frees-quiet s u seat _ _ (repeats session pool x found same) = frees-none s (SetPool session pool) reply.Set s refl (turned-same s s refl refl)
+frees-quiet s u seat _ _ (tells session x found active) = frees-none s (Poll session) (told u x.number) s refl (turned-same s s refl refl)
+
+frees-change : (s u : State) (seat : ℕ) (event : Event) (c : Change) → IsChange s seat event c → IsHealthy s → Frees s event (reply_of u c.answer) c.state
+frees-change s u seat _ _ (defines statement new accepts) h = frees-none s (Define statement) reply.Defined (defined s new).state refl (turned-same s (defined s new).state refl refl)
+frees-change s u seat _ _ (opens user may) h =
+    frees-none s (Open user) (reply.Opened (s.last_session + 1)) (opened s seat user).state refl (turned-same s (opened s seat user).state refl refl)
+frees-change s u seat _ _ (chooses session pool x found may differs) h =
+    frees-none s (SetPool session pool) reply.Set (choice_made s x pool).state refl (turned-same s (choice_made s x pool).state refl refl)
+frees-change s u seat _ _ (submits session floor x found may) h =
+    let pool = session_pool s.definitions x in
+    let c = submitted s x pool floor in
+    frees-none s (Submit session floor) (told u x.number) c.state refl (turned-submitted s c.state (new_waiter s x pool floor) refl refl refl)
+frees-change s u seat _ _ (collects session x end found ended) h =
+    frees-none s (Poll session) (reply.Ended end) (collected s x end).state refl (turned-same s (collected s x end).state refl refl)
+frees-change s u seat _ _ (finishes session x found runs) h =
+    let n = x.number in
+    let there = session_of-found s seat session x found in
+    let r = runner_found s.sessions s.waiting s.running n h.in_phase (ap is_running (phase_of-found n s.sessions x there) ∙ runs) in
+    let few : count_by (λ (y : Runner). eqb y.session n) s.running ≤ 1 = omega (arith, h.in_phase.runs n, one_if-most (is_running (phase_of s.sessions n))) in
+    let number : n ≡ session = (session_of-is s seat session x found).number in
+    let freed : query_of s session ≡ Some r.0.query = ap (λ k. query_of s k) (sym number) ∙ ap (option_map (λ (y : Runner). y.query)) r.1 in
+    let grant : grant_of s.running n ≡ r.0.grant = ap (λ (o : Option Runner). elim o [ Some y ↦ y.grant | None ↦ 0 ]) r.1 in
+    let turned = turned-finished s (finished s x).state n r.0 refl refl r.1 few h.numbered in
+    record {
+      turned = subst (Turned s (finished s x).state) (sym freed) turned;
+      says = λ query is.
+          let same : r.0.query ≡ query = let e : Some r.0.query ≡ Some query = sym freed ∙ is in cc in
+          ap (λ k. grant_called s.running k) (sym same) ∙ ap (option_map (λ (y : Runner). y.grant)) (runner-number s n r.0 r.1 h.numbered) ∙ ap (λ g. Some g) (sym grant);
+    }
+
+-- what is told of an item that is there or not
+grant-found : (o : Option Runner) (grant : ℕ) → option_map (λ (r : Runner). r.grant) o ≡ Some grant → (r : Runner) × ((o ≡ Some r) × (r.grant ≡ grant))
+grant-found None grant is = absurd (let none : None ≡ Some grant = is in cc)
+grant-found (Some r) grant is = let same : r.grant ≡ grant = cc in (r, (refl, same))
+
+grant-none : (o : Option Runner) → (let n : Option ℕ = None in option_map (λ (r : Runner). r.grant) o ≡ n) → (let n : Option Runner = None in o ≡ n)
+grant-none None is = refl
+grant-none (Some r) is = absurd (cc)
+
+-- who runs since the change, or from before it
+behind-found : (c : State) (query : ℕ) (r : Runner) → (let n : Option Runner = None in runner_called c.running query ≡ n) → runner_called (settled c).running query ≡ Some r → Came c r
+behind-found c query r none found =
+    let come = come-settled c in
+    come.came query r (found-behind (λ (x : Runner). eqb x.query query) r c.running come.more none (subst (λ (l : List Runner). runner_called l query ≡ Some r) come.split found))
+
+came-number : (c : State) (query : ℕ) (r : Runner) (running : List Runner) (came : Came c r) → runner_called running query ≡ Some r → came.waiter.query ≡ query
+came-number c query r running came found =
+    ap (λ (x : Runner). x.query) (sym came.is) ∙ eqb-true r.query query (found_passes (λ (x : Runner). eqb x.query query) r running found)
+
+gone-settled : (c : State) (query : ℕ) → (let n : Option Runner = None in runner_called c.running query ≡ n) → ((w : Waiter) → IsAmong w c.waiting → w.query ≡ query → ⊥)
+    → (let n : Option Runner = None in runner_called (settled c).running query ≡ n)
+gone-settled c query none waits_not = turn (runner_called (settled c).running query) refl where
+  turn : (o : Option Runner) → runner_called (settled c).running query ≡ o → (let n : Option Runner = None in o ≡ n)
+  turn None found = refl
+  turn (Some r) found =
+      let came = behind-found c query r none found in
+      absurd (waits_not came.waiter came.among (came-number c query r (settled c).running came found))
+
+-- a state that runs what has settled
+pub record RunsAs (t new : State) : Type 0 where
+  pub running : new.running ≡ t.running
+  pub definitions : new.definitions ≡ t.definitions
+  pub clock : new.clock ≡ t.clock
+
+waited-as : (t c : State) (r : Runner) (came : Came c r) → AreNumbered t.last_query t.waiting t.running
+    → IsAmong came.waiter t.waiting ⊎ (came.waiter.query ≡ t.last_query + 1) → HasWaited t r
+waited-as t c r came numbered (inl among) =
+    let w = came.waiter in
+    inl (
+      w,
+      ap (λ (x : Runner). waiter_called t.waiting x.query) came.is ∙ number-found t.last_query t.waiting t.running w numbered among,
+      ap (λ (x : Runner). x.pool) (sym came.is),
+      ap (λ (x : Runner). x.user) (sym came.is),
+      ap (λ (x : Runner). x.floor) (sym came.is),
+    )
+waited-as t c r came numbered (inr new) = inr (ap (λ (x : Runner). x.query) came.is ∙ new)
+
+admitted-settled : (t c new : State) (query : ℕ) (r : Runner) → RunsAs (settled c) new → AreNumbered t.last_query t.waiting t.running
+    → ((w : Waiter) → IsAmong w c.waiting → IsAmong w t.waiting ⊎ (w.query ≡ t.last_query + 1))
+    → (let n : Option Runner = None in runner_called c.running query ≡ n) → runner_called (settled c).running query ≡ Some r → IsAdmitted t new r
+admitted-settled t c new query r like numbered waits none found =
+    let came = behind-found c query r none found in
+    let rest = rest-settled c in
+    let definitions : new.definitions ≡ c.definitions = like.definitions ∙ rest.definitions in
+    let clock : new.clock ≡ c.clock = like.clock ∙ rest.clock in
+    let asked : r.grant ≡ ask c.definitions (pool_row c.definitions r.pool) r.user r.floor =
+    subst (λ (x : Runner). x.grant ≡ ask c.definitions (pool_row c.definitions x.pool) x.user x.floor) (sym came.is) refl in
+    let within = within-settled c query r none found in
+    record {
+      waited = waited-as t c r came numbered (waits came.waiter came.among);
+      grant = subst (λ d. r.grant ≡ ask d (pool_row d r.pool) r.user r.floor) (sym definitions) asked;
+      start = ap (λ (x : Runner). x.start) came.is ∙ sym clock;
+      within =
+          subst (λ d. used r.pool (holdings new.running) ≤ cap d (pool_row d r.pool)) (sym definitions)
+          (subst (λ (l : List Runner). used r.pool (holdings l) ≤ cap c.definitions (pool_row c.definitions r.pool)) (sym like.running) within);
+    }
+
+-- so an event that settles keeps the grants
+keeps-settled : (t c new : State) (event : Event) (answer : Reply) → Frees t event answer c → AreNumbered t.last_query t.waiting t.running → RunsAs (settled c) new
+    → KeepsGrants t new event answer
+keeps-settled t c new event answer frees numbered like =
+    let come = come-settled c in
+    let turned = frees.turned in
+    record {
+      kept = λ query grant was other.
+          let r = grant-found (runner_called t.running query) grant was in
+          let there = turned.kept query r.0 r.1.0 other in
+          ap (λ l. grant_called l query) (like.running ∙ come.split)
+          ∙ ap (option_map (λ (x : Runner). x.grant)) (found-front (λ (x : Runner). eqb x.query query) r.0 c.running come.more there) ∙ ap (λ g. Some g) r.1.1;
+      freed = λ query is. (
+        frees.says query is,
+        ap (λ l. grant_called l query) like.running
+        ∙ ap (option_map (λ (x : Runner). x.grant)) (gone-settled c query (turned.gone query is) (turned.waits_not query is)),
+      );
+      admitted = λ query r found none.
+          admitted-settled t c new query r like numbered turned.waits (turned.none query (grant-none (runner_called t.running query) none))
+          (ap (λ l. runner_called l query) (sym like.running) ∙ found);
+    }
+
+-- what is freed hangs on the running queries alone
+freed-same : (s t : State) (event : Event) (answer : Reply) → t.running ≡ s.running → freed_by t event answer ≡ freed_by s event answer
+freed-same s t (Define statement) answer same = refl
+freed-same s t (Open user) answer same = refl
+freed-same s t (SetPool session pool) answer same = refl
+freed-same s t (Submit session floor) answer same = refl
+freed-same s t (Poll session) answer same = refl
+freed-same s t (Finish session) answer same =
+    ap (λ (l : List Runner). option_and_then (λ grant. option_map (λ (r : Runner). r.query) (runner_of l session)) (released answer)) same
+
+-- deadlines leave the running queries as they were, and none waits that did not
+pub record WaitsLess (s t : State) : Type 0 where
+  pub running : t.running ≡ s.running
+  pub last_query : t.last_query ≡ s.last_query
+  pub waits : (w : Waiter) → IsAmong w t.waiting → IsAmong w s.waiting
+
+pub less-found : (s : State) (at : ℕ) → WaitsLess s (found_at s at)
+less-found s at =
+    due-keeps (WaitsLess s)
+    (λ t w end among h. record {
+      running = h.running;
+      last_query = h.last_query;
+      waits = λ y left. h.waits y (among-without (λ x. eqb x.session w.session) y t.waiting left);
+    })
+    (moved_to s at) (record { running = refl; last_query = refl; waits = λ w among. among })
+
+waited-before : (s t : State) (r : Runner) → WaitsLess s t → AreNumbered s.last_query s.waiting s.running → HasWaited t r → HasWaited s r
+waited-before s t r less numbered (inl h) =
+    let w = h.0 in
+    let among = less.waits w (found_among (λ x. eqb x.query r.query) w t.waiting h.1) in
+    let number : w.query ≡ r.query = eqb-true w.query r.query (found_passes (λ (x : Waiter). eqb x.query r.query) w t.waiting h.1) in
+    inl (w, ap (waiter_called s.waiting) (sym number) ∙ number-found s.last_query s.waiting s.running w numbered among, h.2, h.3, h.4)
+waited-before s t r less numbered (inr new) = inr (new ∙ ap (λ n. n + 1) less.last_query)
+
+keeps-found : (s t new : State) (event : Event) (answer : Reply) → WaitsLess s t → AreNumbered s.last_query s.waiting s.running → KeepsGrants t new event answer
+    → KeepsGrants s new event answer
+keeps-found s t new event answer less numbered h =
+    let same = freed-same s t event answer less.running in
+    record {
+      kept = λ query grant was other. h.kept query grant (ap (λ l. grant_called l query) less.running ∙ was) (λ is. other (sym same ∙ is));
+      freed = λ query is. let f = h.freed query (same ∙ is) in (ap (λ l. grant_called l query) (sym less.running) ∙ f.0, f.1);
+      admitted = λ query r found none.
+          let a = h.admitted query r found (ap (λ l. grant_called l query) less.running ∙ none) in
+          record { waited = waited-before s t r less numbered a.waited; grant = a.grant; start = a.start; within = a.within };
+    }
+
+-- an event that changes nothing keeps them
+keeps-same : (s : State) (event : Event) (answer : Reply) → (let o : Option ℕ = None in freed_by s event answer ≡ o) → KeepsGrants s s event answer
+keeps-same s event answer none = record {
+  kept = λ query grant was other. was;
+  freed = λ query is. absurd (let e : None ≡ Some query = sym none ∙ is in cc);
+  admitted = λ query r found gone. absurd (let e : Some r.grant ≡ None = sym (ap (option_map (λ (x : Runner). x.grant)) found) ∙ gone in cc);
+}
+
+quiet-none : (s t u : State) (seat : ℕ) (event : Event) (answer : Answer) → IsQuiet t seat event answer → (let o : Option ℕ = None in freed_by s event (reply_of u answer) ≡ o)
+quiet-none s t u seat _ _ (refuses event r is) = refused-none s event r
+quiet-none s t u seat _ _ (repeats session pool x found same) = refl
+quiet-none s t u seat _ _ (tells session x found active) = refl
+
+keeps-still : (s t : State) (seat : ℕ) (event : Event) (c : Change) → IsTried t seat event c → c.changed ≡ false → KeepsGrants s s event (reply_of c.state c.answer)
+keeps-still s t seat event _ (stays answer still) plain = keeps-same s event (reply_of t answer) (quiet-none s t t seat event answer still)
+keeps-still s t seat event _ (changes c is loud) plain = absurd (false≢true (sym plain ∙ loud))
+
+tried-frees : (t u : State) (seat : ℕ) (event : Event) (c : Change) → IsTried t seat event c → IsHealthy t → Frees t event (reply_of u c.answer) c.state
+tried-frees t u seat event _ (stays answer still) h = frees-quiet t u seat event answer still
+tried-frees t u seat event _ (changes c is loud) h = frees-change t u seat event c is h
+
+pub grants-step : (s : State) (seat at : ℕ) (event : Event) → IsHealthy s → KeepsGrants s (step s seat at event).state event (step s seat at event).reply
+grants-step s seat at event h =
+    let t = found_at s at in
+    let c = attempted t seat event in
+    let is = tried-is t seat event in
+    let there = found-facts s at h in
+    outcome-turn (λ o. KeepsGrants s o.state event o.reply) s seat event c (has_due s at || c.changed)
+    (λ settles.
+      let u = settled c.state in
+      let beside = (beside-answered u c.answer).beside in
+      let new = (entered seat event u c.answer).state in
+      keeps-found s t new event (reply_of u c.answer) (less-found s at) h.numbered
+      (keeps-settled t c.state new event (reply_of u c.answer) (tried-frees t u seat event c is there) there.numbered
+      (record {
+        running = ap (λ (v : State). v.running) beside;
+        definitions = ap (λ (v : State). v.definitions) beside;
+        clock = ap (λ (v : State). v.clock) beside;
+      }))
+    )
+    (λ still. keeps-still s t seat event c is (or_right_false (has_due s at) c.changed still))
