@@ -98,7 +98,7 @@ impl Machine {
         requires leaves { MayLeave self.old.waiting w }
         ensures { self.new ≡ timed_out self.old w }
     {
-        let deadline = deadline(&self.definitions, &w).unwrap_or(w.queued.ms());
+        let deadline = deadline(&self.definitions, &w);
         self.end_as(w, End::TimedOut(deadline));
     }
 
