@@ -7,13 +7,13 @@ ghost use Rattle.rm_rules.specs.Acceptance.{with_pool, total_out_of_range, name_
 
 use crate::after::{called_after, reserved_after, total_after};
 use crate::chains::{is_on_chain, longest_through};
+use crate::soundness::has_pool;
 use rm_base::definitions::Definitions;
 use rm_base::limits::{CHAIN_MOST, CHANGES_MOST, GENERAL_PART, POOLS_MOST, TOTAL_LEAST};
 use rm_base::name::Name;
 use rm_base::refusal::{Parameter, Refusal, TableKind};
 use rm_base::rows::PoolRow;
 use rm_base::statement::PoolChange;
-use rm_rules::readings::pool_called;
 
 fn refused_if(holds: bool, refusal: Refusal) -> Option<Refusal>
     ensures { result ≡ refused_if holds refusal }
@@ -55,15 +55,13 @@ fn total_out_of_range(
 fn name_taken(definitions: &Definitions, name: Name) -> Option<Refusal>
     ensures { result ≡ name_taken definitions.now name }
 {
-    let found = pool_called(definitions.pools.rows(), name);
-    refused_if(found.is_some(), Refusal::NameTaken)
+    refused_if(has_pool(definitions, name), Refusal::NameTaken)
 }
 
 fn pool_missing(definitions: &Definitions, name: Name) -> Option<Refusal>
     ensures { result ≡ pool_missing definitions.now name }
 {
-    let found = pool_called(definitions.pools.rows(), name);
-    refused_if(found.is_none(), Refusal::NoSuchPool(name))
+    refused_if(!has_pool(definitions, name), Refusal::NoSuchPool(name))
 }
 
 fn general_reserves(name: Name, change: &PoolChange) -> Option<Refusal>

@@ -265,7 +265,7 @@ fn has_role(roles: &[RoleRow], name: Name) -> bool
     role_called(roles, name).is_some()
 }
 
-fn has_pool(definitions: &Definitions, name: Name) -> bool
+pub fn has_pool(definitions: &Definitions, name: Name) -> bool
     ensures { result ≡ has_pool definitions.now name }
 {
     pool_called(definitions.pools.rows(), name).is_some()

@@ -1,0 +1,4 @@
+mod asks;
+mod defined;
+mod soundness;
+mod users;
