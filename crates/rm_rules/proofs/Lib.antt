@@ -36,3 +36,5 @@ pub mod SettledLaws
 pub mod Within
 pub mod Alone
 pub mod Grants
+pub mod Histories
+pub mod Submitting

@@ -1,16 +1,18 @@
 -- What an event does to the running queries' grants, and to the memory in force.
 use Rattle.std.specs.Prelude.{◌≡◌, ◌≢◌, ◌⊎◌, ℕ, ◌+◌, ◌==◌, ◌<◌, ◌≤◌, List, [], ◌∷◌, Option, Some, None, option_map, option_and_then, find}
+use Rattle.rm_base.specs.declared.definitions.Definitions.{Definitions}
 use Rattle.rm_base.specs.declared.entry.Entry.{Entry}
 use Rattle.rm_base.specs.declared.event.Event.{Event}
 use Rattle.rm_base.specs.declared.event.Event.TheVariants.{Define, Open, SetPool, Submit, Poll, Finish}
 use Rattle.rm_base.specs.declared.name.Name.{Name}
 use Rattle.rm_base.specs.declared.reply.Reply.{Reply}
 use Rattle.rm_base.specs.declared.reply.Reply.TheVariants as reply
+use Rattle.rm_rules.specs.declared.state.Session.{Session}
 use Rattle.rm_rules.specs.declared.state.Runner.{Runner}
 use Rattle.rm_rules.specs.declared.state.Waiter.{Waiter}
 use Rattle.rm_rules.specs.Definitions.{pool_row, total}
 use Rattle.rm_rules.specs.Ask.{cap, ask}
-use Rattle.rm_rules.specs.State.{State}
+use Rattle.rm_rules.specs.State.{State, session_of, session_pool}
 use Rattle.rm_rules.specs.Holdings.{holdings}
 use Rattle.rm_rules.specs.Accounting.{used}
 use Rattle.rm_rules.specs.Change.{runner_of}
@@ -99,3 +101,16 @@ pub record KeepsBytes (old new : State) (entry : Entry) : Type 0 where
 abbrev pub BytesAreKept : State → List Entry → Type 0
 BytesAreKept s [] = Unit {0}
 BytesAreKept s (e ∷ es) = KeepsBytes s (step s e.seat e.at e.event).state e × BytesAreKept (step s e.seat e.at e.event).state es
+
+-- what a session's query of this floor asks for in the session's pool
+abbrev pub ask_in : Definitions → Session → ℕ → ℕ
+ask_in d x floor = ask d (pool_row d (session_pool d x)) x.user floor
+
+-- A query that its session submits to its pool is admitted at once, under the next number, with its ask as its grant.
+pub record IsAdmittedAtOnce (s : State) (seat session floor : ℕ) (answer : Reply) : Type 0 where
+  pub submitter : Session
+  pub open_session : session_of s seat session ≡ Some submitter
+  pub own : ℕ
+  pub borrowed : ℕ
+  pub whole : own + borrowed ≡ ask_in s.definitions submitter floor
+  pub reply : answer ≡ reply.Admitted (s.last_query + 1) (session_pool s.definitions submitter) (ask_in s.definitions submitter floor) own borrowed

@@ -4,6 +4,7 @@
 pub mod acceptance;
 pub mod answer;
 pub mod free_bytes;
+pub mod history;
 pub mod readings;
 pub mod room;
 pub mod state;
