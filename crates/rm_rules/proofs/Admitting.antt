@@ -1,8 +1,7 @@
 -- What an admission keeps.
-use Rattle.std.proofs.Common.{◌≡◌, ℕ, ◌+◌, ◌≤◌, Bool, true, false, cond, eqb, List, [], ◌∷◌, ◌++◌, Some, None, refl, sym, ap, ◌∙◌, subst, arith, count_by}
-use Rattle.std.specs.List.{find, list_all}
+use Rattle.std.proofs.Common.{◌≡◌, ℕ, ◌≤◌, Bool, true, false, eqb, List, [], ◌∷◌, ◌++◌, Some, None, refl, sym, ap, ◌∙◌, subst, arith, count_by}
+use Rattle.std.specs.List.{find}
 use Rattle.std.proofs.lemmas.Bool.{eq-eqb, false≢true}
-use Rattle.rm_base.specs.declared.definitions.Definitions.{Definitions}
 use Rattle.rm_rules.specs.declared.state.Phase.{Phase}
 use Rattle.rm_rules.specs.declared.state.Phase.TheVariants as phase
 use Rattle.rm_rules.specs.declared.state.Session.{Session}
@@ -10,13 +9,14 @@ use Rattle.rm_rules.specs.declared.state.Waiter.{Waiter}
 use Rattle.rm_rules.specs.declared.state.Runner.{Runner}
 use Rattle.rm_rules.specs.State.{State, phase_of, without_waiter, is_idle, is_waiting, is_running, is_ended}
 use Rattle.rm_rules.specs.Admission.{started, admitted, first_entitled}
-use Rattle.rm_rules.specs.Sound.{has_pool}
-use Rattle.rm_rules.specs.Healthy.{AreInPhase, AreThere, AreNumbered, IsHealthyWith, RoomOf, one_if}
-use Rattle.rm_rules.proofs.Taken.{found_counted, counted_among, found_single, all_among}
-use Rattle.rm_rules.proofs.Changed.{turns-stay, turns-leave, turns-come}
+use Rattle.rm_rules.specs.Owed.{owed}
+use Rattle.rm_rules.specs.Healthy.{AreInPhase, AreNumbered, IsHealthyWith, RoomOf, one_if}
+use Rattle.rm_rules.proofs.Taken.{found_counted, counted_among, found_single}
+use Rattle.rm_rules.proofs.Changed.{turns-leave, turns-come}
 use Rattle.rm_rules.proofs.Phases.{one_if-most, there_if_live, opened-with}
 use Rattle.rm_rules.proofs.Queue.{IsAmong, first_entitled_fits}
-use Rattle.rm_rules.proofs.Moving.{Goes, in_phase-goes, there-goes, numbered-goes, owed, owed-goes, room-owed}
+use Rattle.rm_rules.proofs.There.{pools-admitted}
+use Rattle.rm_rules.proofs.Moving.{Goes, in_phase-goes, numbered-goes, owed-goes, room-owed}
 use Rattle.rm_rules.proofs.Covering.{covered-admitted}
 
 -- a phase in which a query waits is no other
@@ -82,15 +82,6 @@ pub in_phase-admitted : (s : State) (w : Waiter) → AreInPhase s.sessions s.wai
 in_phase-admitted s w h among =
     in_phase-goes w.session phase.Running s.sessions s.waiting (without_waiter w.session s.waiting) s.running (s.running ++ started s w ∷ []) (goes-admitted s w h among) h
 
-pub there-admitted : (s : State) (w : Waiter) → AreInPhase s.sessions s.waiting s.running → IsAmong w s.waiting
-    → AreThere s.definitions s.sessions s.waiting s.running → AreThere s.definitions (admitted s w).sessions (admitted s w).waiting (admitted s w).running
-there-admitted s w h among there =
-    let known : has_pool s.definitions w.pool ≡ true =
-    all_among (λ x. has_pool s.definitions x.pool) among.front among.rest w
-    (subst (λ (l : List Waiter). list_all (λ x. has_pool s.definitions x.pool) l ≡ true) among.split there.waits) in
-    there-goes s.definitions w.session phase.Running s.sessions s.waiting (without_waiter w.session s.waiting) s.running (s.running ++ started s w ∷ [])
-    (goes-admitted s w h among) refl known there
-
 -- a query keeps its number when it begins to run
 pub numbered-admitted : (s : State) (w : Waiter) → AreInPhase s.sessions s.waiting s.running → IsAmong w s.waiting → AreNumbered s.last_query s.waiting s.running
     → AreNumbered (admitted s w).last_query (admitted s w).waiting (admitted s w).running
@@ -119,7 +110,7 @@ healthy-admitted entries statements s w picked h =
     record {
       sound = h.sound;
       sized = h.sized;
-      there = there-admitted s w h.in_phase among h.there;
+      there = pools-admitted s w among h.there;
       covered = covered-admitted s w h.sound h.sized h.there h.covered picked;
       in_phase = in_phase-admitted s w h.in_phase among;
       opened = opened-with s.last_session w.session phase.Running s.sessions h.opened;

@@ -1,13 +1,10 @@
 -- What each event changes, and what it keeps.
-use Rattle.std.proofs.Common.{◌≡◌, ℕ, zero, suc, ◌+◌, ◌*◌, ◌≤◌, ◌<◌, Bool, true, false, not, cond, eqb, leb, ltb, List, [], ◌∷◌, ◌++◌, length, Some, None, Option, Result, Ok, Err, refl, sym, ap, ◌∙◌, subst, arith, sum_by, count_by}
+use Rattle.std.proofs.Common.{◌≡◌, ℕ, ◌+◌, ◌<◌, Bool, true, false, not, cond, eqb, leb, List, [], ◌∷◌, length, Some, None, Option, Result, Ok, Err, refl, sym, ap, ◌∙◌, subst, arith}
 use Rattle.std.specs.Prelude.{option_and_then}
 use Rattle.std.specs.Option.{is_some}
-use Rattle.std.specs.List.{find, list_all}
-use Rattle.std.proofs.lemmas.List.Sums.{sum_by-cons, sum_by_push}
-use Rattle.std.proofs.lemmas.List.{length_push}
-use Rattle.std.proofs.lemmas.Bool.{eqb-true, eq-eqb, false≢true}
+use Rattle.std.proofs.lemmas.Bool.{eqb-true, false≢true}
 use Rattle.std.proofs.lemmas.Bool.Decides.{nat_tests}
-use Rattle.rm_base.specs.declared.limits.TheConstants.{SESSIONS_MOST, ENTRIES_A_QUERY, ENTRIES_A_SESSION, ENTRIES_BEYOND}
+use Rattle.rm_base.specs.declared.limits.TheConstants.{SESSIONS_MOST}
 use Rattle.rm_base.specs.declared.definitions.Definitions.{Definitions}
 use Rattle.rm_base.specs.declared.event.Event.{Event}
 use Rattle.rm_base.specs.declared.event.Event.TheVariants.{Define, Open, SetPool, Submit, Poll, Finish}
@@ -17,20 +14,17 @@ use Rattle.rm_base.specs.declared.refusal.Refusal.TheVariants as refusal
 use Rattle.rm_base.specs.declared.reply.End.{End}
 use Rattle.rm_base.specs.declared.reply.Reply.TheVariants as reply
 use Rattle.rm_base.specs.declared.statement.Statement.{Statement}
-use Rattle.rm_base.specs.Ranges.{passes_if_set}
 use Rattle.rm_rules.specs.declared.answer.Answer.{Answer}
-use Rattle.rm_rules.specs.declared.answer.Answer.TheVariants.{Says, Tells, Collects}
+use Rattle.rm_rules.specs.declared.answer.Answer.TheVariants.{Says, Tells}
 use Rattle.rm_rules.specs.declared.state.Phase.{Phase}
 use Rattle.rm_rules.specs.declared.state.Phase.TheVariants as phase
 use Rattle.rm_rules.specs.declared.state.Session.{Session}
-use Rattle.rm_rules.specs.declared.state.Waiter.{Waiter}
-use Rattle.rm_rules.specs.declared.state.Runner.{Runner}
 use Rattle.rm_rules.specs.Definitions.{pool_row, user_called, usage}
-use Rattle.rm_rules.specs.Refusals.{refused_if, first_refusal, unless_refused}
+use Rattle.rm_rules.specs.Refusals.{refused_if, first_refusal}
 use Rattle.rm_rules.specs.Acceptance.{accepted, pool_missing}
 use Rattle.rm_rules.specs.Ask.{is_too_large}
-use Rattle.rm_rules.specs.State.{State, session_called, session_of, if_opened_by, session_pool, with_choice, is_idle, is_active, is_running, live_queries, counted_entries}
-use Rattle.rm_rules.specs.Change.{Change, quiet, changing, with_session, user_missing, size_refusal, session_busy, not_live, not_running, usage_missing, sessions_full, journal_full, is_journal_full, defined, defining_to, defining, opened, opening_refusal, opening, has_chosen, chosen, choosing_refusal, choosing, submitted, submitting_refusal, submitting, polled, polling, collected, finished, finishing, change, tried}
+use Rattle.rm_rules.specs.State.{State, session_called, session_of, if_opened_by, session_pool, with_choice, is_idle, is_active, is_running, live_queries}
+use Rattle.rm_rules.specs.Change.{Change, quiet, changing, with_session, user_missing, size_refusal, session_busy, not_live, not_running, usage_missing, sessions_full, journal_full, is_journal_full, defined, defining_to, opened, opening_refusal, has_chosen, chosen, choosing_refusal, choosing, submitted, submitting_refusal, submitting, polled, polling, collected, finished, finishing, change, tried}
 use Rattle.rm_rules.specs.Answers.{is_defining}
 use Rattle.rm_rules.specs.Sound.{has_pool}
 use Rattle.rm_rules.proofs.Taken.{found_passes, not_true}
@@ -48,9 +42,6 @@ first-none (Some r) more h = absurd (cc)
 
 not_above : (a b : ℕ) → leb a b ≡ false → b < a
 not_above a b h = grind (arith, nat_tests)
-
-not_below : (a b : ℕ) → ltb a b ≡ false → b ≤ a
-not_below a b h = grind (arith, nat_tests)
 
 -- the session that an event speaks of
 of_seat-turn : (seat : ℕ) (x : Session) (o : Option Session) → option_and_then (if_opened_by seat) o ≡ Some x → (o ≡ Some x) × (x.seat ≡ seat)
@@ -87,18 +78,11 @@ pub with_session-ok : (s : State) (seat n : ℕ) (act : Session → Result Chang
     → (x : Session) × (session_of s seat n ≡ Some x) × (act x ≡ Ok c)
 with_session-ok s seat n act c h = with_session-turn act c (session_of s seat n) h
 
--- with one entry more, the journal keeps free what so many live queries and open sessions may need
-abbrev pub Leaves : State → ℕ → ℕ → Type 0
-Leaves s live open_sessions = counted_entries s.journal + 1 + ENTRIES_A_QUERY * live + ENTRIES_A_SESSION * open_sessions ≤ s.room
-
-room_left : (s : State) (live open_sessions : ℕ) → (let o : Option Refusal = None in journal_full s live open_sessions ≡ o) → Leaves s live open_sessions
-room_left s live open_sessions h = not_below _ _ (refused-none (is_journal_full s live open_sessions) _ h)
-
 -- Open is not refused
 pub record MayOpen (s : State) (user : Name) : Type 0 where
   pub user_there : is_some (user_called s.definitions.users user) ≡ true
   pub few : length s.sessions < SESSIONS_MOST
-  pub leaves : Leaves s (live_queries s.sessions) (length s.sessions + 1)
+  pub not_full : is_journal_full s (live_queries s.sessions) (length s.sessions + 1) ≡ false
 
 pub may_open : (s : State) (user : Name) → (let o : Option Refusal = None in opening_refusal s user ≡ o) → MayOpen s user
 may_open s user h =
@@ -109,14 +93,14 @@ may_open s user h =
     record {
       user_there = not_true _ (refused-none (not (is_some (user_called s.definitions.users user))) _ first.0);
       few = not_above _ _ (refused-none (leb SESSIONS_MOST (length s.sessions)) _ second.0);
-      leaves = room_left s (live_queries s.sessions) (length s.sessions + 1) third.0;
+      not_full = refused-none (is_journal_full s (live_queries s.sessions) (length s.sessions + 1)) _ third.0;
     }
 
 -- SetPool is not refused
 pub record MayChoose (s : State) (x : Session) (pool : Name) : Type 0 where
   pub pool_there : has_pool s.definitions pool ≡ true
   pub may_use : usage s.definitions x.user pool ≡ true
-  pub leaves : Leaves s (live_queries s.sessions) (length s.sessions)
+  pub not_full : is_journal_full s (live_queries s.sessions) (length s.sessions) ≡ false
 
 pub may_choose : (s : State) (x : Session) (pool : Name) → (let o : Option Refusal = None in choosing_refusal s x pool ≡ o) → MayChoose s x pool
 may_choose s x pool h =
@@ -127,7 +111,7 @@ may_choose s x pool h =
     record {
       pool_there = not_true _ (refused-none (not (has_pool s.definitions pool)) _ first.0);
       may_use = not_true _ (refused-none (not (usage s.definitions x.user pool)) _ second.0);
-      leaves = room_left s (live_queries s.sessions) (length s.sessions) third.0;
+      not_full = refused-none (is_journal_full s (live_queries s.sessions) (length s.sessions)) _ third.0;
     }
 
 -- Submit is not refused
@@ -136,7 +120,7 @@ pub record MaySubmit (s : State) (x : Session) (pool : Name) (floor : ℕ) : Typ
   pub user_there : is_some (user_called s.definitions.users x.user) ≡ true
   pub may_use : usage s.definitions x.user pool ≡ true
   pub small : is_too_large s.definitions (pool_row s.definitions pool) x.user floor ≡ false
-  pub leaves : Leaves s (live_queries s.sessions + 1) (length s.sessions)
+  pub not_full : is_journal_full s (live_queries s.sessions + 1) (length s.sessions) ≡ false
 
 pub may_submit : (s : State) (x : Session) (pool : Name) (floor : ℕ) → (let o : Option Refusal = None in submitting_refusal s x pool floor ≡ o) → MaySubmit s x pool floor
 may_submit s x pool floor h =
@@ -153,7 +137,7 @@ may_submit s x pool floor h =
       user_there = not_true _ (refused-none (not (is_some (user_called d.users x.user))) _ second.0);
       may_use = not_true _ (refused-none (not (usage d x.user pool)) _ third.0);
       small = refused-none (is_too_large d (pool_row d pool) x.user floor) _ fourth.0;
-      leaves = room_left s (live_queries s.sessions + 1) (length s.sessions) fifth.0;
+      not_full = refused-none (is_journal_full s (live_queries s.sessions + 1) (length s.sessions)) _ fifth.0;
     }
 
 -- what the choice of another pool changes

@@ -1,5 +1,5 @@
 -- What a waiting query that ends in the queue leaves.
-use Rattle.std.proofs.Common.{◌≡◌, ℕ, ◌+◌, ◌≤◌, Bool, true, false, cond, eqb, List, [], ◌∷◌, length, Some, None, refl, sym, ap, ◌∙◌, arith}
+use Rattle.std.proofs.Common.{◌≡◌, ℕ, ◌+◌, ◌≤◌, true, false, cond, List, [], ◌∷◌, length, Some, None, refl, sym, ap, ◌∙◌, arith}
 use Rattle.rm_base.specs.declared.entry.EndCounts.{EndCounts}
 use Rattle.rm_base.specs.declared.name.Name.{Name}
 use Rattle.rm_base.specs.declared.reply.End.{End}
@@ -10,11 +10,13 @@ use Rattle.rm_rules.specs.declared.state.Waiter.{Waiter}
 use Rattle.rm_rules.specs.declared.state.Runner.{Runner}
 use Rattle.rm_rules.specs.State.{State, phase_of, with_one_end, with_end, without_waiter}
 use Rattle.rm_rules.specs.Deadlines.{ended_as}
-use Rattle.rm_rules.specs.Healthy.{AreSized, AreThere, AreInPhase, AreNumbered, RoomOf, IsHealthyWith, IsUnsettledWith, one_if}
+use Rattle.rm_rules.specs.Owed.{owed}
+use Rattle.rm_rules.specs.Healthy.{AreSized, AreInPhase, AreNumbered, RoomOf, IsHealthyWith, IsUnsettledWith, one_if}
 use Rattle.rm_rules.proofs.Changed.{turns-stay, turns-leave}
 use Rattle.rm_rules.proofs.Phases.{there_if_live, opened-with}
 use Rattle.rm_rules.proofs.Queue.{IsAmong}
-use Rattle.rm_rules.proofs.Moving.{Goes, in_phase-goes, there-goes, numbered-goes, owed, owed-goes, room-owed}
+use Rattle.rm_rules.proofs.There.{pools-ended}
+use Rattle.rm_rules.proofs.Moving.{Goes, in_phase-goes, numbered-goes, owed-goes, room-owed}
 use Rattle.rm_rules.proofs.Admitting.{waiting-just, session-waits, waiter_found}
 
 -- one count changes, and no counter comes or goes
@@ -54,12 +56,6 @@ pub in_phase-ended : (end : End) (s : State) (w : Waiter) → AreInPhase s.sessi
 in_phase-ended end s w h among =
     in_phase-goes w.session (phase.Ended end) s.sessions s.waiting (without_waiter w.session s.waiting) s.running s.running (goes-ended end s w h among) h
 
-pub there-ended : (end : End) (s : State) (w : Waiter) → AreInPhase s.sessions s.waiting s.running → IsAmong w s.waiting
-    → AreThere s.definitions s.sessions s.waiting s.running
-    → AreThere s.definitions (ended_as end s w).sessions (ended_as end s w).waiting (ended_as end s w).running
-there-ended end s w h among there =
-    there-goes s.definitions w.session (phase.Ended end) s.sessions s.waiting (without_waiter w.session s.waiting) s.running s.running (goes-ended end s w h among) refl refl there
-
 -- it leaves its number to nobody
 pub numbered-ended : (end : End) (s : State) (w : Waiter) → AreInPhase s.sessions s.waiting s.running → IsAmong w s.waiting → AreNumbered s.last_query s.waiting s.running
     → AreNumbered (ended_as end s w).last_query (ended_as end s w).waiting (ended_as end s w).running
@@ -96,7 +92,7 @@ pub unsettled-ended : (entries statements : ℕ) (end : End) (s : State) (w : Wa
 unsettled-ended entries statements end s w among h = record {
   sound = h.sound;
   sized = sized-ended end s w h.sized;
-  there = there-ended end s w h.in_phase among h.there;
+  there = pools-ended end s w h.there;
   held = h.held;
   in_phase = in_phase-ended end s w h.in_phase among;
   opened = opened-with s.last_session w.session (phase.Ended end) s.sessions h.opened;
@@ -109,7 +105,7 @@ pub healthy-ended : (entries statements : ℕ) (end : End) (s : State) (w : Wait
 healthy-ended entries statements end s w among h = record {
   sound = h.sound;
   sized = sized-ended end s w h.sized;
-  there = there-ended end s w h.in_phase among h.there;
+  there = pools-ended end s w h.there;
   covered = h.covered;
   in_phase = in_phase-ended end s w h.in_phase among;
   opened = opened-with s.last_session w.session (phase.Ended end) s.sessions h.opened;
@@ -122,7 +118,7 @@ pub healthy-ended-more : (entries statements : ℕ) (end : End) (s : State) (w :
 healthy-ended-more entries statements end s w among h = record {
   sound = h.sound;
   sized = sized-ended end s w h.sized;
-  there = there-ended end s w h.in_phase among h.there;
+  there = pools-ended end s w h.there;
   covered = h.covered;
   in_phase = in_phase-ended end s w h.in_phase among;
   opened = opened-with s.last_session w.session (phase.Ended end) s.sessions h.opened;

@@ -1,19 +1,19 @@
 -- The memory in force rises only where a statement raises the total.
-use Rattle.std.proofs.Common.{◌≡◌, ℕ, ◌≤◌, Bool, true, false, ◌||◌, refl, sym, ap, ◌∙◌, arith, max}
+use Rattle.std.proofs.Common.{◌≡◌, ℕ, ◌≤◌, ◌||◌, refl, ap, arith, max}
 use Rattle.rm_base.specs.declared.event.Event.{Event}
 use Rattle.rm_base.specs.declared.event.Event.TheVariants.{Define, Open, SetPool, Submit, Poll, Finish}
 use Rattle.rm_rules.specs.Definitions.{total}
 use Rattle.rm_rules.specs.State.{State}
 use Rattle.rm_rules.specs.Settle.{settled}
 use Rattle.rm_rules.specs.Change.{Change, defined}
-use Rattle.rm_rules.specs.Step.{Outcome, entered, moved_to, has_due, found_at, attempted, step}
+use Rattle.rm_rules.specs.Step.{entered, moved_to, has_due, found_at, attempted, step}
 use Rattle.rm_rules.specs.Replay.{IsFormed}
 use Rattle.rm_rules.specs.Healthy.{IsUnsettled, IsHealthy}
 use Rattle.rm_rules.specs.Grants.{RaisesForce}
 use Rattle.rm_rules.proofs.Settling.{due-keeps, rest-settled, rest-due, force-settled}
-use Rattle.rm_rules.proofs.Changing.{IsTried, stays, changes, IsChange, defines, opens, chooses, submits, collects, finishes, tried-is, rest-changed}
+use Rattle.rm_rules.proofs.Changing.{IsTried, stays, changes, IsChange, defines, opens, chooses, submits, collects, finishes, tried-is}
 use Rattle.rm_rules.proofs.Answering.{beside-answered}
-use Rattle.rm_rules.proofs.Stepping.{found-facts, unsettled-tried, outcome-turn}
+use Rattle.rm_rules.proofs.Stepping.{unsettled-tried, outcome-turn}
 
 force-least : (s t : State) (event : Event) → t.in_force ≤ s.in_force → RaisesForce s t event
 force-least s t (Define statement) least = λ rises. absurd (omega (arith, rises, least))
@@ -61,9 +61,9 @@ force-step s seat at event h formed =
     let is = tried-is (found_at s at) seat event in
     outcome-turn (λ o. RaisesForce s o.state event) s seat event c (has_due s at || c.changed)
     (λ settles.
-      let t = settled c.state in
-      let beside = (beside-answered t c.answer).beside in
-      force-like s t (entered seat event t c.answer).state event (ap (λ (u : State). u.in_force) beside) (ap (λ (u : State). u.definitions) beside)
-      (force-tried s seat at event c is (unsettled-tried s seat at event c is formed h settles) h)
+    let t = settled c.state in
+    let beside = (beside-answered t c.answer).beside in
+    force-like s t (entered seat event t c.answer).state event (ap (λ (u : State). u.in_force) beside) (ap (λ (u : State). u.definitions) beside)
+    (force-tried s seat at event c is (unsettled-tried s seat at event c is formed h settles) h)
     )
     (λ still. force-least s s event (omega arith))

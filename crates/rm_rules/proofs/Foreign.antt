@@ -1,29 +1,24 @@
 -- What an event leaves of the sessions for which it is not.
-use Rattle.std.proofs.Common.{◌≡◌, ℕ, Bool, true, false, ◌||◌, cond, eqb, List, [], ◌∷◌, ◌++◌, Some, None, Option, inl, inr, ◌⊎◌, refl, sym, ap, ◌∙◌, subst}
-use Rattle.std.specs.Prelude.{◌≢◌, option_map}
-use Rattle.std.specs.List.{find}
-use Rattle.std.proofs.lemmas.Bool.{eqb-true, eq-eqb, false≢true}
+use Rattle.std.proofs.Common.{◌≡◌, ℕ, Bool, true, false, ◌||◌, cond, eqb, List, [], ◌∷◌, ◌++◌, Some, None, inl, inr, refl, sym, ap, ◌∙◌, subst}
+use Rattle.std.specs.Prelude.{option_map}
+use Rattle.std.proofs.lemmas.Bool.{eqb-true, false≢true}
 use Rattle.rm_base.specs.declared.event.Event.{Event}
-use Rattle.rm_base.specs.declared.event.Event.TheVariants.{Define, Open, SetPool, Submit, Poll, Finish}
 use Rattle.rm_base.specs.declared.reply.End.{End}
 use Rattle.rm_rules.specs.declared.answer.Answer.{Answer}
-use Rattle.rm_rules.specs.declared.answer.Answer.TheVariants.{Says, Tells, Collects}
 use Rattle.rm_rules.specs.declared.state.Phase.{Phase}
 use Rattle.rm_rules.specs.declared.state.Phase.TheVariants as phase
 use Rattle.rm_rules.specs.declared.state.Session.{Session}
 use Rattle.rm_rules.specs.declared.state.Waiter.{Waiter}
-use Rattle.rm_rules.specs.State.{State, session_called, session_of, phase_of, with_phase, with_choice, is_idle, is_waiting, is_ended}
+use Rattle.rm_rules.specs.State.{State, session_called, session_of, phase_of, with_phase, is_idle, is_waiting, is_ended}
 use Rattle.rm_rules.specs.Admission.{admitted, first_entitled}
-use Rattle.rm_rules.specs.Shuffle.{shuffled_state}
 use Rattle.rm_rules.specs.Deadlines.{ended_as}
 use Rattle.rm_rules.specs.Settle.{settled}
 use Rattle.rm_rules.specs.Change.{Change}
-use Rattle.rm_rules.specs.Answers.{reply_of, answered}
-use Rattle.rm_rules.specs.Step.{Outcome, entered, moved_to, has_due, found_at, attempted, step}
+use Rattle.rm_rules.specs.Answers.{answered}
+use Rattle.rm_rules.specs.Step.{moved_to, has_due, found_at, attempted, step}
 use Rattle.rm_rules.specs.Replay.{IsFormed}
 use Rattle.rm_rules.specs.Sessions.{session_in, IsForeign, Settles, Stays, Runs, Ends, IsLeft, LeavesForeign}
-use Rattle.rm_rules.specs.Healthy.{AreInPhase, IsUnsettled, IsHealthy}
-use Rattle.rm_rules.proofs.Taken.{found_passes}
+use Rattle.rm_rules.specs.Healthy.{AreInPhase, IsHealthy}
 use Rattle.rm_rules.proofs.Changed.{other-changed}
 use Rattle.rm_rules.proofs.Phases.{is_called, phased, choosing_pool, called-with_same, called-with_other, phase_of-found}
 use Rattle.rm_rules.proofs.Queue.{IsAmong}
@@ -31,7 +26,7 @@ use Rattle.rm_rules.proofs.Admitting.{session-waits, in_phase-admitted}
 use Rattle.rm_rules.proofs.Ending.{in_phase-ended}
 use Rattle.rm_rules.proofs.Settling.{entitled-among, due-keeps, settled-keeps}
 use Rattle.rm_rules.proofs.Changing.{IsTried, stays, changes, IsQuiet, refuses, repeats, tells, IsChange, defines, opens, chooses, submits, collects, finishes, session_of-is, tried-is}
-use Rattle.rm_rules.proofs.Stepping.{moved-facts, found-facts, unsettled-tried, outcome-turn}
+use Rattle.rm_rules.proofs.Stepping.{unsettled-tried, outcome-turn}
 
 pub settles-then : (p q r : Phase) → Settles p q → Settles q r → Settles p r
 settles-then p _ r (Stays _) then = then
@@ -141,6 +136,7 @@ number-turn s seat session n event x y z for foreign number of_seat called found
 number-turn s seat session n event x y z for foreign number of_seat called found true same = absurd (both foreign) where
   is : eqb session n ≡ true
   is = ap (λ k. eqb k n) (sym (session_of-is s seat session z found).number) ∙ same
+
   both : IsForeign seat event x → ⊥
   both (inl other) = other (for ∙ ap (λ k. Some k) (eqb-true session n is ∙ sym number))
   both (inr other) =
@@ -220,7 +216,7 @@ foreign-step s seat at event h formed x called foreign =
     number-turn t seat session n event x found.session z for foreign refl found.left.seat found.called of (eqb z.number n) refl in
     outcome-turn (λ o. (y : Session) × (session_called o.state.sessions n ≡ Some y) × IsLeft x y) s seat event c (has_due s at || c.changed)
     (λ settles.
-      let left = tried-left t seat event c n x is (unsettled-tried s seat at event c is formed h settles).in_phase other found in
-      (left.session, left.called, left.left)
+    let left = tried-left t seat event c n x is (unsettled-tried s seat at event c is formed h settles).in_phase other found in
+    (left.session, left.called, left.left)
     )
     (λ still. let left = left-self n x s.sessions called in (left.session, left.called, left.left))

@@ -2,79 +2,38 @@
 use Rattle.std.proofs.Common.{◌≡◌, ℕ, ◌+◌, ◌≤◌, Bool, true, false, ◌||◌, cond, eqb, List, [], ◌∷◌, ◌++◌, Some, None, Option, inl, inr, ◌⊎◌, refl, sym, ap, ◌∙◌, subst, arith, append_assoc, append-nil, count_by}
 use Rattle.std.specs.Prelude.{◌≢◌, option_map, option_and_then}
 use Rattle.std.specs.List.{find}
-use Rattle.std.proofs.lemmas.List.Sums.{sum_by-cons}
 use Rattle.std.proofs.lemmas.Bool.{eqb-true, eq-eqb, false≢true}
-use Rattle.rm_base.specs.declared.definitions.Definitions.{Definitions}
 use Rattle.rm_base.specs.declared.event.Event.{Event}
 use Rattle.rm_base.specs.declared.event.Event.TheVariants.{Define, Open, SetPool, Submit, Poll, Finish}
-use Rattle.rm_base.specs.declared.reply.End.{End}
 use Rattle.rm_base.specs.declared.refusal.Refusal.{Refusal}
 use Rattle.rm_base.specs.declared.reply.Reply.{Reply}
 use Rattle.rm_base.specs.declared.reply.Reply.TheVariants as reply
 use Rattle.rm_rules.specs.declared.answer.Answer.{Answer}
-use Rattle.rm_rules.specs.declared.state.Session.{Session}
 use Rattle.rm_rules.specs.declared.state.Waiter.{Waiter}
 use Rattle.rm_rules.specs.declared.state.Runner.{Runner}
 use Rattle.rm_rules.specs.Definitions.{pool_row}
 use Rattle.rm_rules.specs.Ask.{cap, ask}
-use Rattle.rm_rules.specs.State.{State, without, without_waiter, without_runner, session_pool, phase_of, is_running}
+use Rattle.rm_rules.specs.State.{State, without, without_runner, session_pool, phase_of, is_running}
 use Rattle.rm_rules.specs.Holdings.{holdings}
 use Rattle.rm_rules.specs.Accounting.{used}
 use Rattle.rm_rules.specs.Admission.{started, admitted, first_entitled}
-use Rattle.rm_rules.specs.Shuffle.{shuffled_state}
-use Rattle.rm_rules.specs.Deadlines.{ended_as}
 use Rattle.rm_rules.specs.Settle.{settled}
 use Rattle.rm_rules.specs.Change.{Change, runner_of, grant_of, new_waiter, defined, opened, submitted, collected, finished}
-use Rattle.rm_rules.specs.Answers.{told, reply_of, answered}
-use Rattle.rm_rules.specs.Step.{Outcome, entered, moved_to, has_due, found_at, attempted, step}
-use Rattle.rm_rules.specs.Replay.{IsFormed}
-use Rattle.rm_rules.specs.Healthy.{AreInPhase, AreNumbered, IsHealthy}
+use Rattle.rm_rules.specs.Answers.{told, reply_of}
+use Rattle.rm_rules.specs.Step.{entered, moved_to, has_due, found_at, attempted, step}
+use Rattle.rm_rules.specs.Healthy.{AreNumbered, IsHealthy}
 use Rattle.rm_rules.specs.Grants.{runner_called, waiter_called, grant_called, query_of, released, freed_by, HasWaited, IsAdmitted, KeepsGrants}
 use Rattle.rm_rules.proofs.Taken.{found_passes, found_counted, found_single, counted_among, sum_without, or_right_false}
+use Rattle.rm_rules.proofs.Found.{found-front, found-push, found-kept, found-split, found-same, none-counted}
 use Rattle.rm_rules.proofs.Queue.{IsAmong, found_among}
 use Rattle.rm_rules.proofs.SettledLaws.{none_without}
-use Rattle.rm_rules.proofs.Settling.{entitled-among, due-keeps, settled-keeps, rest-settled, rest-due}
+use Rattle.rm_rules.proofs.Settling.{entitled-among, due-keeps, settled-keeps, rest-settled}
 use Rattle.rm_rules.proofs.Within.{found-behind, within-settled}
 use Rattle.rm_rules.proofs.Changing.{IsTried, stays, changes, IsQuiet, refuses, repeats, tells, IsChange, defines, opens, chooses, submits, collects, finishes, choice_made, session_of-is, session_of-found, tried-is}
 use Rattle.rm_rules.proofs.Phases.{one_if-most, phase_of-found}
 use Rattle.rm_rules.proofs.Keeping.{runner_found}
 use Rattle.rm_rules.proofs.Answering.{beside-answered}
-use Rattle.rm_rules.proofs.Stepping.{moved-facts, found-facts, unsettled-tried, outcome-turn}
-
--- what is found in front is found, and what is found is in front or the last
-front-turn : {A : Type 0} (test : A → Bool) (x y : A) (xs ys : List A) (b : Bool) → cond b (Some x) (find test xs) ≡ Some y
-    → (find test xs ≡ Some y → find test (xs ++ ys) ≡ Some y) → cond b (Some x) (find test (xs ++ ys)) ≡ Some y
-front-turn test x y xs ys true found rest = found
-front-turn test x y xs ys false found rest = rest found
-
-found-front : {A : Type 0} (test : A → Bool) (y : A) (xs ys : List A) → find test xs ≡ Some y → find test (xs ++ ys) ≡ Some y
-found-front test y [] ys found = let none : None ≡ Some y = found in absurd (cc)
-found-front test y (x ∷ xs) ys found = front-turn test x y xs ys (test x) found (found-front test y xs ys)
-
-last-turn : {A : Type 0} (test : A → Bool) (x y z : A) (xs : List A) (b : Bool) → cond b (Some x) (find test (xs ++ z ∷ [])) ≡ Some y
-    → (find test (xs ++ z ∷ []) ≡ Some y → (find test xs ≡ Some y) ⊎ (y ≡ z)) → (cond b (Some x) (find test xs) ≡ Some y) ⊎ (y ≡ z)
-last-turn test x y z xs true found rest = inl found
-last-turn test x y z xs false found rest = rest found
-
-one-turn : {A : Type 0} (y z : A) (b : Bool) → cond b (Some z) None ≡ Some y → y ≡ z
-one-turn y z true found = cc
-one-turn y z false found = absurd (cc)
-
-found-push : {A : Type 0} (test : A → Bool) (y z : A) (xs : List A) → find test (xs ++ z ∷ []) ≡ Some y → (find test xs ≡ Some y) ⊎ (y ≡ z)
-found-push test y z [] found = inr (one-turn y z (test z) found)
-found-push test y z (x ∷ xs) found = last-turn test x y z xs (test x) found (found-push test y z xs)
-
--- what another test does not take is found as before
-kept-turn : {A : Type 0} (test other : A → Bool) (x y : A) (xs : List A) (b c : Bool) → other x ≡ b → test x ≡ c → cond c (Some x) (find test xs) ≡ Some y → other y ≡ false
-    → (find test xs ≡ Some y → find test (without other xs) ≡ Some y) → find test (cond b xs (x ∷ without other xs)) ≡ Some y
-kept-turn test other x y xs true true e f found apart rest = let same : x ≡ y = cc in absurd (false≢true (sym apart ∙ ap other (sym same) ∙ e))
-kept-turn test other x y xs true false e f found apart rest = found
-kept-turn test other x y xs false true e f found apart rest = ap (λ b. cond b (Some x) (find test (without other xs))) f ∙ found
-kept-turn test other x y xs false false e f found apart rest = ap (λ b. cond b (Some x) (find test (without other xs))) f ∙ rest found
-
-found-kept : {A : Type 0} (test other : A → Bool) (y : A) (xs : List A) → find test xs ≡ Some y → other y ≡ false → find test (without other xs) ≡ Some y
-found-kept test other y [] found apart = let none : None ≡ Some y = found in absurd (cc)
-found-kept test other y (x ∷ xs) found apart = kept-turn test other x y xs (other x) (test x) refl refl found apart (λ more. found-kept test other y xs more apart)
+use Rattle.rm_rules.proofs.Stepping.{found-facts, outcome-turn}
 
 -- what is left of a list is of the list
 further : (w x : Waiter) (ws : List Waiter) → IsAmong w ws → IsAmong w (x ∷ ws)
@@ -207,38 +166,6 @@ turned-submitted s c y running waiting next = record {
   turn w (inl before) = inl before
   turn w (inr new) = inr (ap (λ (z : Waiter). z.query) new ∙ next)
 
--- where what is found stands
-split-turn : {A : Type 0} (test : A → Bool) (x y : A) (xs : List A) (b : Bool) → cond b (Some x) (find test xs) ≡ Some y
-    → (find test xs ≡ Some y → (front : List A) × ((rest : List A) × (xs ≡ front ++ y ∷ rest))) → (front : List A) × ((rest : List A) × (x ∷ xs ≡ front ++ y ∷ rest))
-split-turn test x y xs true found more = let same : x ≡ y = cc in ([], (xs, ap (λ z. z ∷ xs) same))
-split-turn test x y xs false found more = let there = more found in (x ∷ there.0, (there.1.0, ap (λ l. x ∷ l) there.1.1))
-
-found-split : {A : Type 0} (test : A → Bool) (y : A) (xs : List A) → find test xs ≡ Some y → (front : List A) × ((rest : List A) × (xs ≡ front ++ y ∷ rest))
-found-split test y [] found = let none : None ≡ Some y = found in absurd (cc)
-found-split test y (x ∷ xs) found = split-turn test x y xs (test x) found (found-split test y xs)
-
--- so where one alone passes a test, two that pass it are one
-pub found-same : {A : Type 0} (test other : A → Bool) (y z : A) (xs : List A) → find test xs ≡ Some y → other y ≡ true → count_by other xs ≤ 1 → find other xs ≡ Some z → y ≡ z
-found-same {A} test other y z xs found passes few there =
-    let split = found-split test y xs found in
-    found_single other split.0 split.1.0 y z passes
-    (subst (λ (l : List A). count_by other l ≤ 1) split.1.1 few) (subst (λ (l : List A). find other l ≡ Some z) split.1.1 there)
-
--- where none passes, none is found
-none-turn : {A : Type 0} (test : A → Bool) (x : A) (xs : List A) (b : Bool) → test x ≡ b → count_by test (x ∷ xs) ≡ 0 → (count_by test xs ≡ 0 → find test xs ≡ None)
-    → cond b (Some x) (find test xs) ≡ None
-none-turn test x xs true e none rest = absurd (omega (arith, none, sum_by-cons (λ z. cond (test z) 1 0) x xs, ap {B = ℕ} (λ b. cond b 1 0) e))
-none-turn test x xs false e none rest = rest (omega (arith, none, sum_by-cons (λ z. cond (test z) 1 0) x xs, ap {B = ℕ} (λ b. cond b 1 0) e))
-
-none-counted : {A : Type 0} (test : A → Bool) (xs : List A) → count_by test xs ≡ 0 → find test xs ≡ None
-none-counted test [] none = refl
-none-counted test (x ∷ xs) none = none-turn test x xs (test x) refl none (none-counted test xs)
-
-some-counted : {A : Type 0} (test : A → Bool) (y : A) (xs : List A) → find test xs ≡ Some y → 1 ≤ count_by test xs
-some-counted {A} test y xs found =
-    let split = found-split test y xs found in
-    subst (λ (l : List A). 1 ≤ count_by test l) (sym split.1.1) (counted_among test split.0 split.1.0 y (found_passes test y xs found))
-
 -- a running query is what its number finds
 runner-number : (s : State) (n : ℕ) (r : Runner) → runner_of s.running n ≡ Some r → AreNumbered s.last_query s.waiting s.running → runner_called s.running r.query ≡ Some r
 runner-number s n r found numbered =
@@ -276,13 +203,13 @@ turned-finished s c n r running waiting found few numbered =
       none = λ query called. ap (λ l. runner_called l query) running ∙ none_without (λ (x : Runner). eqb x.query query) (λ x. eqb x.session n) s.running called;
       waits = λ w among. inl (subst (IsAmong w) waiting among);
     } where
-  kept : (query : ℕ) (y : Runner) → runner_called s.running query ≡ Some y → (let o : Option ℕ = Some r.query in o ≢ Some query) → (b : Bool) → eqb y.session n ≡ b
-      → runner_called (without_runner n s.running) query ≡ Some y
-  kept query y called other true here =
-      let same : y ≡ r = found-same (λ (x : Runner). eqb x.query query) (λ x. eqb x.session n) y r s.running called here few found in
-      let number : y.query ≡ query = eqb-true y.query query (found_passes (λ (x : Runner). eqb x.query query) y s.running called) in
-      absurd (other (ap (λ k. Some k) (ap (λ (z : Runner). z.query) (sym same) ∙ number)))
-  kept query y called other false here = found-kept (λ (x : Runner). eqb x.query query) (λ x. eqb x.session n) y s.running called here
+      kept : (query : ℕ) (y : Runner) → runner_called s.running query ≡ Some y → (let o : Option ℕ = Some r.query in o ≢ Some query) → (b : Bool) → eqb y.session n ≡ b
+          → runner_called (without_runner n s.running) query ≡ Some y
+      kept query y called other true here =
+          let same : y ≡ r = found-same (λ (x : Runner). eqb x.query query) (λ x. eqb x.session n) y r s.running called here few found in
+          let number : y.query ≡ query = eqb-true y.query query (found_passes (λ (x : Runner). eqb x.query query) y s.running called) in
+          absurd (other (ap (λ k. Some k) (ap (λ (z : Runner). z.query) (sym same) ∙ number)))
+      kept query y called other false here = found-kept (λ (x : Runner). eqb x.query query) (λ x. eqb x.session n) y s.running called here
 
 -- what a change frees is the grant that its reply says
 pub record Frees (s : State) (event : Event) (answer : Reply) (c : State) : Type 0 where
@@ -295,16 +222,16 @@ frees-none s event answer c none turned = record {
   says = λ query is. absurd (let e : None ≡ Some query = sym none ∙ is in cc);
 }
 
-refused-none : (s : State) (event : Event) (r : Refusal) → (let o : Option ℕ = None in freed_by s event (reply.Refused r) ≡ o)
-refused-none s (Define statement) r = refl
-refused-none s (Open user) r = refl
-refused-none s (SetPool session pool) r = refl
-refused-none s (Submit session floor) r = refl
-refused-none s (Poll session) r = refl
-refused-none s (Finish session) r = refl
+freed-refused : (s : State) (event : Event) (r : Refusal) → (let o : Option ℕ = None in freed_by s event (reply.Refused r) ≡ o)
+freed-refused s (Define statement) r = refl
+freed-refused s (Open user) r = refl
+freed-refused s (SetPool session pool) r = refl
+freed-refused s (Submit session floor) r = refl
+freed-refused s (Poll session) r = refl
+freed-refused s (Finish session) r = refl
 
 frees-quiet : (s u : State) (seat : ℕ) (event : Event) (answer : Answer) → IsQuiet s seat event answer → Frees s event (reply_of u answer) s
-frees-quiet s u seat _ _ (refuses event r is) = frees-none s event (reply.Refused r) s (refused-none s event r) (turned-same s s refl refl)
+frees-quiet s u seat _ _ (refuses event r is) = frees-none s event (reply.Refused r) s (freed-refused s event r) (turned-same s s refl refl)
 frees-quiet s u seat _ _ (repeats session pool x found same) = frees-none s (SetPool session pool) reply.Set s refl (turned-same s s refl refl)
 frees-quiet s u seat _ _ (tells session x found active) = frees-none s (Poll session) (told u x.number) s refl (turned-same s s refl refl)
 
@@ -418,7 +345,7 @@ keeps-settled t c new event answer frees numbered like =
       freed = λ query is. (
         frees.says query is,
         ap (λ l. grant_called l query) like.running
-        ∙ ap (option_map (λ (x : Runner). x.grant)) (gone-settled c query (turned.gone query is) (turned.waits_not query is)),
+            ∙ ap (option_map (λ (x : Runner). x.grant)) (gone-settled c query (turned.gone query is) (turned.waits_not query is)),
       );
       admitted = λ query r found none.
           admitted-settled t c new query r like numbered turned.waits (turned.none query (grant-none (runner_called t.running query) none))
@@ -480,7 +407,7 @@ keeps-same s event answer none = record {
 }
 
 quiet-none : (s t u : State) (seat : ℕ) (event : Event) (answer : Answer) → IsQuiet t seat event answer → (let o : Option ℕ = None in freed_by s event (reply_of u answer) ≡ o)
-quiet-none s t u seat _ _ (refuses event r is) = refused-none s event r
+quiet-none s t u seat _ _ (refuses event r is) = freed-refused s event r
 quiet-none s t u seat _ _ (repeats session pool x found same) = refl
 quiet-none s t u seat _ _ (tells session x found active) = refl
 
@@ -500,15 +427,15 @@ grants-step s seat at event h =
     let there = found-facts s at h in
     outcome-turn (λ o. KeepsGrants s o.state event o.reply) s seat event c (has_due s at || c.changed)
     (λ settles.
-      let u = settled c.state in
-      let beside = (beside-answered u c.answer).beside in
-      let new = (entered seat event u c.answer).state in
-      keeps-found s t new event (reply_of u c.answer) (less-found s at) h.numbered
-      (keeps-settled t c.state new event (reply_of u c.answer) (tried-frees t u seat event c is there) there.numbered
-      (record {
-        running = ap (λ (v : State). v.running) beside;
-        definitions = ap (λ (v : State). v.definitions) beside;
-        clock = ap (λ (v : State). v.clock) beside;
-      }))
+    let u = settled c.state in
+    let beside = (beside-answered u c.answer).beside in
+    let new = (entered seat event u c.answer).state in
+    keeps-found s t new event (reply_of u c.answer) (less-found s at) h.numbered
+    (keeps-settled t c.state new event (reply_of u c.answer) (tried-frees t u seat event c is there) there.numbered
+    (record {
+      running = ap (λ (v : State). v.running) beside;
+      definitions = ap (λ (v : State). v.definitions) beside;
+      clock = ap (λ (v : State). v.clock) beside;
+    }))
     )
     (λ still. keeps-still s t seat event c is (or_right_false (has_due s at) c.changed still))

@@ -1,6 +1,5 @@
 -- What holds along every legal history.
-use Rattle.std.proofs.Common.{◌≡◌, ℕ, ◌+◌, ◌≤◌, Bool, true, false, ◌||◌, cond, List, [], ◌∷◌, ◌++◌, length, Some, None, refl, sym, ap, ◌∙◌, subst, arith}
-use Rattle.std.proofs.lemmas.List.{length-append}
+use Rattle.std.proofs.Common.{◌≡◌, ℕ, ◌+◌, ◌≤◌, Bool, true, false, ◌||◌, cond, List, [], ◌∷◌, ◌++◌, length, refl, sym, ap, ◌∙◌, subst, arith}
 use Rattle.rm_base.specs.declared.definitions.Definitions.{Definitions}
 use Rattle.rm_base.specs.declared.entry.Entry.{Entry}
 use Rattle.rm_base.specs.declared.event.Event.{Event}
@@ -17,10 +16,10 @@ use Rattle.rm_rules.specs.Healthy.{IsHealthy, IsUnsettled}
 use Rattle.rm_rules.specs.Grants.{KeepsGrants, BytesAreKept}
 use Rattle.rm_rules.proofs.SettledLaws.{settled-is-settled, settled-beside, start-settled}
 use Rattle.rm_rules.proofs.Settling.{rest-settled, rest-due}
-use Rattle.rm_rules.proofs.Changing.{IsTried, tried-is, rest-tried}
+use Rattle.rm_rules.proofs.Changing.{tried-is, rest-tried}
 use Rattle.rm_rules.proofs.Answering.{beside-answered}
 use Rattle.rm_rules.proofs.Stepping.{unsettled-tried, outcome-turn}
-use Rattle.rm_rules.proofs.Laws.{healthy-start, healthy-step, healthy-replay, journal-step, replay-journal, conserved-healthy}
+use Rattle.rm_rules.proofs.Laws.{healthy-start, healthy-step, healthy-replay, conserved-healthy}
 use Rattle.rm_rules.proofs.Forces.{force-step}
 use Rattle.rm_rules.proofs.Grants.{grants-step}
 
@@ -83,8 +82,8 @@ room-step s seat at event =
     let c = attempted (found_at s at) seat event in
     outcome-turn (λ o. o.state.room ≡ s.room) s seat event c (has_due s at || c.changed)
     (λ settles.
-      ap (λ (u : State). u.room) (beside-answered (settled c.state) c.answer).beside ∙ (rest-settled c.state).room
-      ∙ (rest-tried (found_at s at) seat event c (tried-is (found_at s at) seat event)).room ∙ (rest-due (moved_to s at)).room
+    ap (λ (u : State). u.room) (beside-answered (settled c.state) c.answer).beside ∙ (rest-settled c.state).room
+    ∙ (rest-tried (found_at s at) seat event c (tried-is (found_at s at) seat event)).room ∙ (rest-due (moved_to s at)).room
     )
     (λ still. refl)
 

@@ -1,12 +1,12 @@
 -- What each event's change keeps, before the state settles.
-use Rattle.std.proofs.Common.{◌≡◌, ℕ, ◌+◌, ◌-◌, ◌*◌, ◌≤◌, ◌<◌, Bool, true, false, not, cond, eqb, leb, List, [], ◌∷◌, ◌++◌, length, Some, None, Option, Ok, refl, sym, ap, ◌∙◌, subst, arith, sum_by, count_by}
+use Rattle.std.proofs.Common.{◌≡◌, ℕ, ◌+◌, ◌-◌, ◌*◌, ◌≤◌, ◌<◌, Bool, true, false, not, cond, eqb, leb, ltb, List, [], ◌∷◌, ◌++◌, length, Some, None, Ok, refl, sym, ap, ◌∙◌, arith, sum_by, count_by}
 use Rattle.std.specs.Option.{is_some}
-use Rattle.std.specs.List.{find, list_all}
+use Rattle.std.specs.List.{list_all}
 use Rattle.std.proofs.lemmas.List.Sums.{sum_by-cons, sum_by_push}
 use Rattle.std.proofs.lemmas.List.{length_push}
 use Rattle.std.proofs.lemmas.Bool.{eqb-true, false≢true}
 use Rattle.std.proofs.lemmas.Bool.Decides.{nat_tests}
-use Rattle.rm_base.specs.declared.limits.TheConstants.{SESSIONS_MOST, ENTRIES_A_QUERY, ENTRIES_A_SESSION, ENTRIES_BEYOND}
+use Rattle.rm_base.specs.declared.limits.TheConstants.{SESSIONS_MOST, ENTRIES_A_SESSION, ENTRIES_BEYOND}
 use Rattle.rm_base.specs.declared.definitions.Definitions.{Definitions}
 use Rattle.rm_base.specs.declared.event.Event.{Event}
 use Rattle.rm_base.specs.declared.event.Event.TheVariants.{Define}
@@ -22,19 +22,19 @@ use Rattle.rm_rules.specs.declared.state.Waiter.{Waiter}
 use Rattle.rm_rules.specs.declared.state.Runner.{Runner}
 use Rattle.rm_rules.specs.State.{State, session_called, session_pool, phase_of, with_phase, with_choice, without_runner, is_idle, is_active, is_waiting, is_running, is_ended, live_queries, counted_entries}
 use Rattle.rm_rules.specs.Acceptance.{accepted}
-use Rattle.rm_rules.specs.Change.{Change, defined, opened, new_session, submitted, new_waiter, collected, finished, runner_of}
+use Rattle.rm_rules.specs.Change.{Change, defined, opened, new_session, submitted, new_waiter, collected, finished, runner_of, is_journal_full}
 use Rattle.rm_rules.specs.Replay.{IsFormed}
 use Rattle.rm_rules.specs.Sound.{has_pool}
-use Rattle.rm_rules.specs.Owed.{entries_moving, entries_waiting, entries_running}
+use Rattle.rm_rules.specs.Owed.{owed, entries_moving, entries_waiting, entries_running}
 use Rattle.rm_rules.specs.Healthy.{AreInPhase, AreThere, AreOpened, AreNumbered, IsHealthyWith, IsUnsettledWith, counted_for, defining_for, one_if}
 use Rattle.rm_rules.proofs.Taken.{and_left, and_right, all_found, all_push, found_counted}
 use Rattle.rm_rules.proofs.Changed.{turns-stay, turns-leave, turns-come}
 use Rattle.rm_rules.proofs.Known.{session_pool-known, chosen-choice}
 use Rattle.rm_rules.proofs.AcceptanceLaws.{all_wider, accepted-sound, accepted-counted}
 use Rattle.rm_rules.proofs.Phases.{phase_of-found, count-with, phase_of-choice, count-choice, length-choice, opened-choice, opened-with, phase_of-push, count-push, there_if_live, live-counts, live-most, length-with}
-use Rattle.rm_rules.proofs.Moving.{Goes, in_phase-goes, there-goes, numbered-goes, owed, owed-goes, room-owed}
-use Rattle.rm_rules.proofs.Covering.{held-finished, IsDefined, held-defined}
-use Rattle.rm_rules.proofs.Changing.{IsChange, defines, opens, chooses, submits, collects, finishes, MayOpen, MayChoose, MaySubmit, Leaves, choice_made, session_of-found}
+use Rattle.rm_rules.proofs.Moving.{Goes, in_phase-goes, there-goes, numbered-goes, owed-goes, room-owed}
+use Rattle.rm_rules.proofs.Covering.{held-finished, held-defined}
+use Rattle.rm_rules.proofs.Changing.{IsChange, defines, opens, chooses, submits, collects, finishes, MayOpen, MayChoose, MaySubmit, choice_made, session_of-found}
 
 -- a sum of what is at most so much each
 sum-within : {A : Type 0} (f : A → ℕ) (most : ℕ) (xs : List A) → ((x : A) → f x ≤ most) → sum_by f xs ≤ most * length xs
@@ -62,10 +62,13 @@ pub owed-within : (sessions : List Session) (waiting : List Waiter) (running : L
 owed-within sessions waiting running h =
     omega (arith, h.active, live-counts sessions, sum-within entries_waiting share waiting waiting-within, sum-within entries_running share running running-within)
 
+not_below : (a b : ℕ) → ltb a b ≡ false → b ≤ a
+not_below a b h = grind (arith, nat_tests)
+
 -- so where this refusal does not come there is room for an entry more
-room-left : (counted live sessions owes room : ℕ) → counted + 1 + ENTRIES_A_QUERY * live + ENTRIES_A_SESSION * sessions ≤ room
-    → owes ≤ share * live + ENTRIES_A_SESSION * sessions → live ≤ SESSIONS_MOST → counted + 1 + owes ≤ room + ENTRIES_BEYOND
-room-left counted live sessions owes room leaves within few = omega arith
+room-left : (s : State) (live sessions owes : ℕ) → is_journal_full s live sessions ≡ false → owes ≤ share * live + ENTRIES_A_SESSION * sessions → live ≤ SESSIONS_MOST
+    → counted_entries s.journal + 1 + owes ≤ s.room + ENTRIES_BEYOND
+room-left s live sessions owes not_full within few = omega (arith, not_below _ _ not_full)
 
 -- Define
 unsettled-defined : (s : State) (statement : Statement) (new : Definitions) → IsFormed (Define statement) → IsHealthyWith 0 0 s → accepted s.definitions statement ≡ Ok new
@@ -144,7 +147,7 @@ unsettled-opened s seat user h may =
       opened = opened-push s.last_session s.sessions y refl may.few h.opened;
       numbered = h.numbered;
       room = record {
-        kept = room-left (counted_entries s.journal) (live_queries s.sessions) (length s.sessions + 1) (owed now s.waiting s.running) s.room may.leaves
+        kept = room-left s (live_queries s.sessions) (length s.sessions + 1) (owed now s.waiting s.running) may.not_full
             (omega (arith, owed-within now s.waiting s.running in_phase, count-push (λ p. not (is_idle p)) s.sessions y refl, length_push s.sessions y))
             (omega (arith, live-most s.sessions, may.few));
         defined = h.room.defined;
@@ -152,6 +155,10 @@ unsettled-opened s seat user h may =
         queries = omega (arith, h.room.queries);
       };
     }
+
+-- so the next session's number is within the journal's room
+pub number-opened : (s : State) (user : Name) → IsHealthyWith 0 0 s → MayOpen s user → s.last_session + 1 ≤ s.room
+number-opened s user h may = omega (arith, h.room.sessions, not_below _ _ may.not_full)
 
 -- SetPool
 unsettled-chosen : (s : State) (x : Session) (pool : Name) → IsHealthyWith 0 0 s → MayChoose s x pool → IsUnsettledWith 1 0 (choice_made s x pool).state
@@ -175,7 +182,7 @@ unsettled-chosen s x pool h may =
       opened = opened-choice s.last_session x.number pool s.sessions h.opened;
       numbered = h.numbered;
       room = record {
-        kept = room-left (counted_entries s.journal) (live_queries s.sessions) (length s.sessions) (owed now s.waiting s.running) s.room may.leaves
+        kept = room-left s (live_queries s.sessions) (length s.sessions) (owed now s.waiting s.running) may.not_full
             (omega (arith, owed-within now s.waiting s.running in_phase, count-choice (λ p. not (is_idle p)) x.number pool s.sessions, length-choice x.number pool s.sessions))
             (omega (arith, live-most s.sessions, h.opened.few));
         defined = h.room.defined;
@@ -275,7 +282,7 @@ unsettled-submitted s x floor h found may =
       opened = opened-with s.last_session x.number phase.Waiting s.sessions h.opened;
       numbered = numbered-submitted s.last_query s.waiting s.running w refl h.numbered;
       room = record {
-        kept = room-left (counted_entries s.journal) (live_queries s.sessions + 1) (length s.sessions) (owed now (s.waiting ++ w ∷ []) s.running) s.room may.leaves
+        kept = room-left s (live_queries s.sessions + 1) (length s.sessions) (owed now (s.waiting ++ w ∷ []) s.running) may.not_full
             (omega (arith, owed-within now (s.waiting ++ w ∷ []) s.running in_phase, live, length-with x.number phase.Waiting s.sessions))
             (omega (arith, live-most now, live, length-with x.number phase.Waiting s.sessions, h.opened.few));
         defined = h.room.defined;

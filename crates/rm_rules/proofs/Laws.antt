@@ -1,21 +1,20 @@
 -- The laws of the machine: every state is healthy, and histories are legal and replay to their state.
-use Rattle.std.proofs.Common.{◌≡◌, ℕ, ◌+◌, ◌≤◌, Bool, true, false, ◌||◌, not, cond, eqb, List, [], ◌∷◌, ◌++◌, length, Some, None, Option, refl, sym, ap, ◌∙◌, subst, arith, max, append_assoc, append-nil}
+use Rattle.std.proofs.Common.{◌≡◌, ℕ, ◌≤◌, Bool, true, false, ◌||◌, cond, eqb, List, [], ◌∷◌, ◌++◌, length, refl, sym, ap, ◌∙◌, subst, arith, max, append_assoc, append-nil}
 use Rattle.std.specs.Option.{is_some}
 use Rattle.std.proofs.lemmas.Bool.{false≢true, eq-eqb}
 use Rattle.std.proofs.lemmas.Bool.Decides.{nat_tests}
 use Rattle.rm_base.specs.declared.definitions.Definitions.{Definitions}
 use Rattle.rm_base.specs.declared.entry.Entry.{Entry}
 use Rattle.rm_base.specs.declared.event.Event.{Event}
-use Rattle.rm_base.specs.declared.event.Event.TheVariants.{Define, Open, SetPool, Submit, Poll, Finish}
 use Rattle.rm_base.specs.declared.limits.TheConstants.{MEMORY_LEAST, MEMORY_MOST, CORES_MOST}
 use Rattle.rm_base.specs.Definitions.{fresh}
 use Rattle.rm_base.specs.Ranges.{is_between}
-use Rattle.rm_rules.specs.State.{State, start, is_definition, counted_entries}
+use Rattle.rm_rules.specs.State.{State, start}
 use Rattle.rm_rules.specs.Settle.{settled}
 use Rattle.rm_rules.specs.Deadlines.{first_due, without_due}
 use Rattle.rm_rules.specs.Change.{Change}
 use Rattle.rm_rules.specs.Answers.{reply_of, answered}
-use Rattle.rm_rules.specs.Step.{Outcome, noted, entered, quietly, outcome, moved_to, has_due, found_at, attempted, step, made}
+use Rattle.rm_rules.specs.Step.{Outcome, noted, entered, outcome, moved_to, has_due, found_at, attempted, step, made}
 use Rattle.rm_rules.specs.Replay.{IsFormed, replay, IsLegal, own_entries, is_define, FromFirst}
 use Rattle.rm_rules.specs.Sound.{IsSound}
 use Rattle.rm_rules.specs.Healthy.{IsHealthy}
@@ -23,7 +22,7 @@ use Rattle.rm_rules.specs.Conserved.{IsConserved, ConservedAfterEach}
 use Rattle.rm_rules.proofs.Conserved.{conserved}
 use Rattle.rm_rules.proofs.Covering.{sized-start, covered-start}
 use Rattle.rm_rules.proofs.Settling.{rest-settled, rest-due}
-use Rattle.rm_rules.proofs.Changing.{IsTried, tried-is, LeavesJournal, rest-tried}
+use Rattle.rm_rules.proofs.Changing.{IsTried, tried-is, rest-tried}
 use Rattle.rm_rules.proofs.Answering.{beside-answered}
 use Rattle.rm_rules.proofs.Stepping.{unsettled-tried, kept-entered, outcome-turn}
 

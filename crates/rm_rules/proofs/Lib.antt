@@ -15,6 +15,7 @@ pub mod Conserved
 pub mod Shuffling
 pub mod Defining
 pub mod Covering
+pub mod Found
 pub mod Changed
 pub mod Phases
 pub mod Moving

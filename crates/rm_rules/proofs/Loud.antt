@@ -1,15 +1,13 @@
 -- An event that makes an entry has changed more than the clock.
-use Rattle.std.proofs.Common.{◌≡◌, ℕ, zero, suc, ◌+◌, ◌≤◌, ◌<◌, Bool, true, false, ◌||◌, cond, eqb, ltb, List, [], ◌∷◌, ◌++◌, length, Some, None, Option, refl, sym, ap, ◌∙◌, subst, arith, max, count_by}
+use Rattle.std.proofs.Common.{◌≡◌, ℕ, zero, suc, ◌+◌, ◌≤◌, ◌<◌, Bool, true, false, ◌||◌, cond, eqb, ltb, List, ◌∷◌, length, Some, None, Option, refl, sym, ap, ◌∙◌, subst, arith, count_by}
 use Rattle.std.specs.Prelude.{option_map}
 use Rattle.std.specs.Option.{is_some}
-use Rattle.std.specs.List.{find}
 use Rattle.std.proofs.lemmas.List.{length-append}
 use Rattle.std.proofs.lemmas.List.Sums.{sum_by_push}
 use Rattle.std.proofs.lemmas.Bool.{eq-eqb, false≢true}
 use Rattle.std.proofs.lemmas.Bool.Decides.{nat_tests}
 use Rattle.rm_base.specs.declared.definitions.Definitions.{Definitions}
 use Rattle.rm_base.specs.declared.event.Event.{Event}
-use Rattle.rm_base.specs.declared.reply.End.{End}
 use Rattle.rm_base.specs.declared.name.Name.{Name}
 use Rattle.rm_base.specs.Name.{same_name}
 use Rattle.rm_base.proofs.Names.{same_name-refl}
@@ -18,14 +16,13 @@ use Rattle.rm_rules.specs.declared.state.Phase.{Phase}
 use Rattle.rm_rules.specs.declared.state.Phase.TheVariants as phase
 use Rattle.rm_rules.specs.declared.state.Session.{Session}
 use Rattle.rm_rules.specs.declared.state.Waiter.{Waiter}
-use Rattle.rm_rules.specs.State.{State, session_called, session_pool, with_phase, with_choice, without_waiter, is_idle}
+use Rattle.rm_rules.specs.State.{State, session_called, session_pool, with_phase, without_waiter, is_idle}
 use Rattle.rm_rules.specs.Repeated.{repeated}
-use Rattle.rm_rules.specs.Admission.{admitted}
-use Rattle.rm_rules.specs.Deadlines.{ended_as, first_due, timed_out, without_due}
+use Rattle.rm_rules.specs.Deadlines.{first_due, timed_out, without_due}
 use Rattle.rm_rules.specs.Settle.{settled}
 use Rattle.rm_rules.specs.Change.{Change, new_waiter, defined, opened, has_chosen, submitted, collected, finished}
-use Rattle.rm_rules.specs.Answers.{reply_of, answered}
-use Rattle.rm_rules.specs.Step.{Outcome, entered, quietly, moved_to, has_due, found_at, attempted, step, IsSameButClock}
+use Rattle.rm_rules.specs.Answers.{answered}
+use Rattle.rm_rules.specs.Step.{entered, moved_to, has_due, found_at, attempted, step, IsSameButClock}
 use Rattle.rm_rules.specs.Replay.{IsFormed}
 use Rattle.rm_rules.specs.Sessions.{Settles, Stays, Runs, Ends}
 use Rattle.rm_rules.specs.Healthy.{AreInPhase, AreNumbered, IsHealthy}
@@ -35,9 +32,9 @@ use Rattle.rm_rules.proofs.Changed.{found-changed}
 use Rattle.rm_rules.proofs.Phases.{is_called, phased, choosing_pool, called-with_same}
 use Rattle.rm_rules.proofs.Queue.{IsAmong}
 use Rattle.rm_rules.proofs.Admitting.{waiter_found}
-use Rattle.rm_rules.proofs.Settling.{repeated-keeps, due-among, deadline_end, due-keeps, settled-keeps, rest-settled, rest-due}
+use Rattle.rm_rules.proofs.Settling.{repeated-keeps, due-among, settled-keeps, rest-settled, rest-due}
 use Rattle.rm_rules.proofs.Changing.{IsTried, stays, changes, IsChange, defines, opens, chooses, submits, collects, finishes, choice_made, session_of-found, tried-is, rest-changed}
-use Rattle.rm_rules.proofs.Keeping.{unsettled-changed, ended-just, running-just}
+use Rattle.rm_rules.proofs.Keeping.{unsettled-changed, running-just}
 use Rattle.rm_rules.proofs.Answering.{beside-answered}
 use Rattle.rm_rules.proofs.Stepping.{moved-facts, none-found, outcome-turn}
 use Rattle.rm_rules.proofs.Foreign.{left-self, left-settled}

@@ -1,19 +1,17 @@
 -- The query of a session goes over from one phase to another.
-use Rattle.std.proofs.Common.{◌≡◌, ℕ, ◌+◌, ◌*◌, ◌≤◌, ◌<◌, Bool, true, false, cond, eqb, List, [], ◌∷◌, ◌++◌, length, Some, None, Option, refl, sym, ap, ◌∙◌, subst, arith, sum_by, count_by}
+use Rattle.std.proofs.Common.{◌≡◌, ℕ, ◌+◌, ◌≤◌, Bool, true, false, cond, eqb, List, Option, refl, sym, ap, ◌∙◌, arith}
 use Rattle.std.specs.Option.{is_some}
-use Rattle.std.specs.List.{find, list_all}
-use Rattle.std.proofs.lemmas.Bool.{eqb-true, eq-eqb, false≢true}
+use Rattle.std.proofs.lemmas.Bool.{eqb-true}
 use Rattle.rm_base.specs.Ranges.{passes_if_set}
 use Rattle.rm_base.specs.declared.definitions.Definitions.{Definitions}
 use Rattle.rm_base.specs.declared.entry.Entry.{Entry}
-use Rattle.rm_base.specs.declared.limits.TheConstants.{ENTRIES_A_SESSION}
 use Rattle.rm_rules.specs.declared.state.Phase.{Phase}
 use Rattle.rm_rules.specs.declared.state.Session.{Session}
 use Rattle.rm_rules.specs.declared.state.Waiter.{Waiter}
 use Rattle.rm_rules.specs.declared.state.Runner.{Runner}
-use Rattle.rm_rules.specs.State.{State, session_called, phase_of, with_phase, is_active, is_ended, is_waiting, is_running}
+use Rattle.rm_rules.specs.State.{session_called, phase_of, with_phase, is_active, is_ended, is_waiting, is_running}
 use Rattle.rm_rules.specs.Sound.{has_pool}
-use Rattle.rm_rules.specs.Owed.{entries_waiting, entries_running}
+use Rattle.rm_rules.specs.Owed.{entries_waiting, entries_running, owed}
 use Rattle.rm_rules.specs.Healthy.{AreThere, AreInPhase, AreNumbered, HasRoom, one_if}
 use Rattle.rm_rules.proofs.Changed.{of_one, Turns, counts-turned}
 use Rattle.rm_rules.proofs.Known.{chosen-with}
@@ -92,12 +90,7 @@ numbered-goes last n q sessions w0 w1 r0 r1 g less h =
       given = λ m above. omega (arith, sums m, more m, less m, h.given m above);
     }
 
--- the entries that are owed to these queries and sessions
-abbrev pub owed : List Session → List Waiter → List Runner → ℕ
-owed sessions waiting running =
-    sum_by entries_waiting waiting + sum_by entries_running running
-    + count_by (λ x. is_ended x.phase) sessions + ENTRIES_A_SESSION * length sessions
-
+-- what is owed then
 pub owed-goes : (n : ℕ) (q : Phase) (sessions : List Session) (w0 w1 : List Waiter) (r0 r1 : List Runner) (g : Goes n q sessions w0 w1 r0 r1)
     → owed (with_phase n q sessions) w1 r1 + of_one entries_waiting g.waited + of_one entries_running g.ran + one_if (is_ended (phase_of sessions n))
     ≡ owed sessions w0 r0 + of_one entries_waiting g.waits + of_one entries_running g.runs + one_if (is_ended q)

@@ -1,7 +1,6 @@
 -- What a refused event leaves.
-use Rattle.std.proofs.Common.{◌≡◌, ℕ, ◌+◌, ◌≤◌, Bool, true, false, ◌||◌, cond, eqb, List, [], ◌∷◌, ◌++◌, Some, None, Option, Result, Ok, Err, refl, sym, ap, ◌∙◌, subst, arith, max, count_by}
+use Rattle.std.proofs.Common.{◌≡◌, ℕ, ◌≤◌, true, false, ◌||◌, cond, eqb, Some, None, Option, Err, refl, sym, ap, ◌∙◌, subst, arith, max, count_by}
 use Rattle.std.specs.Prelude.{option_map}
-use Rattle.std.specs.List.{find}
 use Rattle.std.proofs.lemmas.Bool.{false≢true}
 use Rattle.rm_base.specs.declared.event.Event.{Event}
 use Rattle.rm_base.specs.declared.refusal.Refusal.{Refusal}
@@ -9,7 +8,7 @@ use Rattle.rm_base.specs.declared.refusal.Refusal.TheVariants as refusal
 use Rattle.rm_base.specs.declared.reply.Reply.{Reply}
 use Rattle.rm_base.specs.declared.reply.Reply.TheVariants as reply
 use Rattle.rm_rules.specs.declared.answer.Answer.{Answer}
-use Rattle.rm_rules.specs.declared.answer.Answer.TheVariants.{Says, Tells, Collects}
+use Rattle.rm_rules.specs.declared.answer.Answer.TheVariants.{Says}
 use Rattle.rm_rules.specs.declared.state.Phase.{Phase}
 use Rattle.rm_rules.specs.declared.state.Phase.TheVariants as phase
 use Rattle.rm_rules.specs.declared.state.Session.{Session}
@@ -125,8 +124,8 @@ enters-turn s seat at event r c h settles =
     let clock : (settled t).clock ≡ max s.clock at = (rest-settled t).clock ∙ (rest-due (moved_to s at)).clock in (
       h.refused,
       ap (λ (d : Change). (entered seat event (settled d.state) d.answer).state) h.is
-      ∙ ap (λ k. recorded (settled t) (noted seat k event (reply.Refused r))) clock
-      ∙ sym (ap (λ b. cond b (recorded (settled t) (noted seat (max s.clock at) event (reply.Refused r))) s) due),
+          ∙ ap (λ k. recorded (settled t) (noted seat k event (reply.Refused r))) clock
+          ∙ sym (ap (λ b. cond b (recorded (settled t) (noted seat (max s.clock at) event (reply.Refused r))) s) due),
     )
 
 still-turn : (s : State) (seat at : ℕ) (event : Event) (r : Refusal) (c : Change) → IsRefused (found_at s at) seat event r c → (has_due s at || c.changed) ≡ false

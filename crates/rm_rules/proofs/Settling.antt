@@ -1,5 +1,5 @@
 -- What settling and deadlines keep.
-use Rattle.std.proofs.Common.{◌≡◌, ℕ, zero, suc, ◌+◌, ◌≤◌, List, [], ◌∷◌, ◌++◌, length, Some, None, Option, refl, sym, ap, ◌∙◌, subst, arith, max, unwrap_or}
+use Rattle.std.proofs.Common.{◌≡◌, ℕ, zero, suc, ◌+◌, ◌≤◌, List, ◌∷◌, length, Some, None, Option, refl, sym, ap, ◌∙◌, subst, arith, max, unwrap_or}
 use Rattle.std.proofs.lemmas.List.{length-append}
 use Rattle.rm_base.specs.declared.reply.End.{End}
 use Rattle.rm_base.specs.declared.reply.End.TheVariants.{TimedOut}
@@ -55,7 +55,7 @@ pub due-keeps : (P : State → Type 0) → ((s : State) (w : Waiter) (end : End)
 due-keeps P ends s p = repeated-keeps first_due timed_out P (λ a w e. ends a w (deadline_end a w) (due-among a w e)) (length s.waiting) s p
 
 pub admission-keeps : (P : State → Type 0) → ((s : State) (w : Waiter) → first_entitled s ≡ Some w → P s → P (admitted s w)) → (s : State) → P s → P (admission s)
-admission-keeps P admits s p = repeated-keeps first_entitled admitted P admits (length s.waiting) s p
+admission-keeps P admits s p = repeated-keeps first_entitled admitted P admits _ s p
 
 -- what holds before the shuffle, and what from it on
 pub settled-leads : (P Q : State → Type 0) → ((s : State) (w : Waiter) (end : End) → IsAmong w s.waiting → P s → P (ended_as end s w)) → ((s : State) → P s → Q (shuffled_state s))

@@ -1,5 +1,5 @@
 -- How large the total and the reservations can be.
-use Rattle.std.specs.Prelude.{◌≡◌, ℕ, ◌*◌, ◌/◌, ◌≤◌, true, nat_le, List, [], ◌∷◌, length, Option, Some, None, unwrap_or, sum_by, refl}
+use Rattle.std.specs.Prelude.{◌≡◌, ℕ, ◌*◌, ◌≤◌, true, nat_le, List, [], ◌∷◌, length, Option, Some, None, unwrap_or, sum_by, refl}
 use Rattle.std.specs.List.{list_all}
 use Rattle.std.proofs.Common.{arith}
 use Rattle.std.proofs.lemmas.Bool.{leb-true}

@@ -1,25 +1,22 @@
 -- What each event leaves: a healthy state, and a journal with what the event made.
-use Rattle.std.proofs.Common.{◌≡◌, ℕ, ◌+◌, ◌≤◌, Bool, true, false, ◌||◌, cond, List, [], ◌∷◌, ◌++◌, length, Some, None, Option, refl, sym, ap, ◌∙◌, subst, arith, max, append-nil}
+use Rattle.std.proofs.Common.{◌≡◌, ℕ, Bool, true, false, ◌||◌, cond, Some, None, Option, refl, sym}
 use Rattle.std.specs.Option.{is_some}
 use Rattle.std.proofs.lemmas.Bool.{false≢true}
-use Rattle.rm_base.specs.declared.definitions.Definitions.{Definitions}
 use Rattle.rm_base.specs.declared.event.Event.{Event}
 use Rattle.rm_rules.specs.declared.answer.Answer.{Answer}
 use Rattle.rm_rules.specs.declared.state.Waiter.{Waiter}
-use Rattle.rm_rules.specs.State.{State, start}
+use Rattle.rm_rules.specs.State.{State}
 use Rattle.rm_rules.specs.Settle.{settled}
 use Rattle.rm_rules.specs.Deadlines.{first_due}
-use Rattle.rm_rules.specs.Change.{Change, quiet}
+use Rattle.rm_rules.specs.Change.{Change}
 use Rattle.rm_rules.specs.Answers.{is_defining, reply_of, answered}
-use Rattle.rm_rules.specs.Step.{Outcome, noted, entered, quietly, moved_to, has_due, found_at, attempted, step, made}
+use Rattle.rm_rules.specs.Step.{Outcome, noted, entered, quietly, moved_to, has_due, found_at, attempted}
 use Rattle.rm_rules.specs.Replay.{IsFormed}
-use Rattle.rm_rules.specs.Sound.{IsSound}
 use Rattle.rm_rules.specs.Healthy.{IsHealthyWith, IsUnsettledWith, IsHealthy, IsUnsettled, counted_for, defining_for}
-use Rattle.rm_rules.proofs.Covering.{sized-start, covered-start}
-use Rattle.rm_rules.proofs.Settling.{LeavesRest, rest-settled, rest-due, kept-settled, kept-without_due, kept-due-more, none-due}
-use Rattle.rm_rules.proofs.Changing.{IsTried, stays, changes, IsQuiet, quiet-plain, tried-is}
+use Rattle.rm_rules.proofs.Settling.{kept-settled, kept-without_due, kept-due-more, none-due}
+use Rattle.rm_rules.proofs.Changing.{IsTried, stays, changes, quiet-plain, tried-is}
 use Rattle.rm_rules.proofs.Keeping.{unsettled-changed}
-use Rattle.rm_rules.proofs.Answering.{kept-answered, kept-recorded, answer-as, beside-answered}
+use Rattle.rm_rules.proofs.Answering.{kept-answered, kept-recorded, answer-as}
 
 -- at a later moment, and after the deadlines
 pub moved-facts : (s : State) (at : ℕ) → IsHealthy s → IsHealthy (moved_to s at)

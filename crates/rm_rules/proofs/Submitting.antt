@@ -1,9 +1,8 @@
 -- A query that is submitted to an idle host, and not refused, is admitted at once.
-use Rattle.std.proofs.Common.{◌≡◌, ℕ, ◌+◌, ◌-◌, Bool, true, false, ◌||◌, cond, eqb, List, [], ◌∷◌, Some, None, Option, Err, refl, sym, ap, ◌∙◌, subst, arith, min, max}
+use Rattle.std.proofs.Common.{◌≡◌, ℕ, ◌+◌, ◌-◌, Bool, true, false, ◌||◌, cond, eqb, List, [], Some, None, Option, refl, sym, ap, ◌∙◌, subst, arith, min, max}
 use Rattle.std.specs.Prelude.{option_map, take_while, not}
 use Rattle.std.specs.List.{find}
 use Rattle.std.proofs.lemmas.Bool.{eq-eqb, false≢true}
-use Rattle.rm_base.specs.declared.event.Event.{Event}
 use Rattle.rm_base.specs.declared.event.Event.TheVariants.{Submit}
 use Rattle.rm_base.specs.declared.refusal.Refusal.{Refusal}
 use Rattle.rm_base.specs.declared.refusal.Refusal.TheVariants as refusal
@@ -12,11 +11,9 @@ use Rattle.rm_base.specs.declared.reply.Reply.TheVariants as reply
 use Rattle.rm_base.specs.declared.name.Name.{Name}
 use Rattle.rm_base.specs.Name.{same_name, general}
 use Rattle.rm_base.specs.Ranges.{passes_if_set}
-use Rattle.rm_rules.specs.declared.answer.Answer.{Answer}
 use Rattle.rm_rules.specs.declared.state.Holding.{Holding}
 use Rattle.rm_rules.specs.declared.state.Phase.TheVariants as phase
 use Rattle.rm_rules.specs.declared.state.Session.{Session}
-use Rattle.rm_rules.specs.declared.state.Waiter.{Waiter}
 use Rattle.rm_rules.specs.declared.state.Runner.{Runner}
 use Rattle.rm_rules.specs.Definitions.{pool_row}
 use Rattle.rm_rules.specs.Refusals.{refused_if}
@@ -31,16 +28,16 @@ use Rattle.rm_rules.specs.Settled.{IsSettled}
 use Rattle.rm_rules.specs.Sound.{has_pool}
 use Rattle.rm_rules.specs.Change.{Change, new_waiter, submitted, runner_of}
 use Rattle.rm_rules.specs.Answers.{told, told_in_phase, told_running, reply_of}
-use Rattle.rm_rules.specs.Step.{Outcome, moved_to, has_due, found_at, attempted, step}
+use Rattle.rm_rules.specs.Step.{moved_to, has_due, found_at, attempted, step}
 use Rattle.rm_rules.specs.Healthy.{IsHealthy}
-use Rattle.rm_rules.specs.Grants.{ask_in, IsAdmittedAtOnce}
+use Rattle.rm_rules.specs.Grants.{IsAdmittedAtOnce}
 use Rattle.rm_rules.proofs.Taken.{all_found, or_right_false}
 use Rattle.rm_rules.proofs.Known.{session_pool-known}
 use Rattle.rm_rules.proofs.Phases.{phased, called-with_same}
 use Rattle.rm_rules.proofs.Settling.{none-due}
-use Rattle.rm_rules.proofs.Changing.{IsTried, stays, changes, IsQuiet, refuses, repeats, tells, IsChange, defines, opens, chooses, submits, collects, finishes, MaySubmit, session_of-found, tried-is}
+use Rattle.rm_rules.proofs.Changing.{IsTried, stays, changes, refuses, submits, MaySubmit, session_of-found, tried-is}
 use Rattle.rm_rules.proofs.Alone.{RunsAlone, runs-alone}
-use Rattle.rm_rules.proofs.Stepping.{moved-facts, outcome-turn}
+use Rattle.rm_rules.proofs.Stepping.{outcome-turn}
 
 -- an account is its query's grant
 whole-turn : (bytes part : ℕ) (b : Bool) → cond b bytes (min bytes part) + (bytes - cond b bytes (min bytes part)) ≡ bytes

@@ -1,5 +1,5 @@
 -- Which statements are accepted, and what an accepted statement leaves.
-use Rattle.std.specs.Prelude.{◌≡◌, ℕ, zero, suc, ◌+◌, ◌-◌, ◌*◌, ◌/◌, Bool, true, false, ◌&&◌, nat_lt, nat_le, not, List, [], ◌∷◌, Option, Some, None, Result, Ok, Err, is_some, unwrap_or, option_map, option_and_then, length, max, if◌then◌else◌}
+use Rattle.std.specs.Prelude.{ℕ, zero, suc, ◌+◌, ◌-◌, ◌*◌, ◌/◌, Bool, true, false, ◌&&◌, nat_lt, nat_le, not, List, [], ◌∷◌, Option, Some, None, Result, Ok, is_some, unwrap_or, option_map, option_and_then, length, max, if◌then◌else◌}
 use Rattle.std.specs.List.{list_any}
 use Rattle.rm_base.specs.declared.limits.TheConstants.{TOTAL_LEAST, GENERAL_PART, POOLS_MOST, CHANGES_MOST, CHAIN_MOST}
 use Rattle.rm_base.specs.declared.definitions.Definitions.{Definitions}
@@ -10,7 +10,6 @@ use Rattle.rm_base.specs.declared.statement.Size.TheVariants.{Bytes, Percent}
 use Rattle.rm_base.specs.declared.statement.PoolChange.{PoolChange}
 use Rattle.rm_base.specs.declared.statement.Statement.{Statement}
 use Rattle.rm_base.specs.declared.statement.Statement.TheVariants.{CreatePool, AlterPool, DropPool, CreateUser, AlterUser, DropUser, CreateRole, AlterRole, DropRole, GrantUsage, RevokeUsage, GrantRole, RevokeRole}
-use Rattle.rm_base.specs.declared.statement.UserChange.{UserChange}
 use Rattle.rm_base.specs.declared.refusal.Parameter.TheVariants as parameter
 use Rattle.rm_base.specs.declared.refusal.TableKind.TheVariants as table
 use Rattle.rm_base.specs.declared.refusal.Refusal.{Refusal}

@@ -1,5 +1,5 @@
 -- Queueing thresholds and query budgets.
-use Rattle.std.specs.Prelude.{ℕ, ◌/◌, Bool, ◌==◌, unwrap_or, if◌then◌else◌}
+use Rattle.std.specs.Prelude.{ℕ, ◌/◌, ◌==◌, unwrap_or, if◌then◌else◌}
 use Rattle.rm_base.specs.declared.definitions.Definitions.{Definitions}
 use Rattle.rm_base.specs.declared.rows.PoolRow.{PoolRow}
 use Rattle.rm_base.specs.Name.{same_name, general}

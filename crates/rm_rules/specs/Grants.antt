@@ -4,7 +4,6 @@ use Rattle.rm_base.specs.declared.definitions.Definitions.{Definitions}
 use Rattle.rm_base.specs.declared.entry.Entry.{Entry}
 use Rattle.rm_base.specs.declared.event.Event.{Event}
 use Rattle.rm_base.specs.declared.event.Event.TheVariants.{Define, Open, SetPool, Submit, Poll, Finish}
-use Rattle.rm_base.specs.declared.name.Name.{Name}
 use Rattle.rm_base.specs.declared.reply.Reply.{Reply}
 use Rattle.rm_base.specs.declared.reply.Reply.TheVariants as reply
 use Rattle.rm_rules.specs.declared.state.Session.{Session}

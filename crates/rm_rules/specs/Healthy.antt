@@ -1,5 +1,5 @@
 -- What every state of the machine keeps. Each fact is over what it reads, so what an event leaves alone stays as it was.
-use Rattle.std.specs.Prelude.{◌≡◌, ℕ, ◌+◌, ◌<◌, ◌≤◌, nat_le, Bool, true, ◌==◌, List, length, sum_by, count_by, if◌then◌else◌}
+use Rattle.std.specs.Prelude.{◌≡◌, ℕ, ◌+◌, ◌<◌, ◌≤◌, nat_le, Bool, true, ◌==◌, List, length, count_by, if◌then◌else◌}
 use Rattle.std.specs.List.{list_all}
 use Rattle.rm_base.specs.declared.definitions.Definitions.{Definitions}
 use Rattle.rm_base.specs.declared.entry.EndCounts.{EndCounts}
@@ -72,8 +72,8 @@ pub record HasRoom (entries statements owed : ℕ) (journal : List Entry) (room 
 abbrev pub RoomOf : ℕ → ℕ → State → Type 0
 RoomOf entries statements s = HasRoom entries statements (entries_owed s) s.journal s.room s.definitions.changes s.last_session s.last_query
 
--- Before a state settles, and once it has settled, with so many entries still to be made of those that count and of
--- those of statements. Each event keeps the first facts; that the bytes are covered comes with the shuffle.
+-- The facts of a state, with so many entries still to be made of those that count and of those of statements. Each holds
+-- after every step of an event: the deadlines, its change, each part of settling, its answer and its entry.
 pub record IsUnsettledWith (entries statements : ℕ) (s : State) : Type 0 where
   pub sound : IsSound s.definitions
   pub sized : AreSized s.definitions s.actual s.counters
@@ -82,12 +82,15 @@ pub record IsUnsettledWith (entries statements : ℕ) (s : State) : Type 0 where
   pub in_phase : AreInPhase s.sessions s.waiting s.running
   pub opened : AreOpened s.last_session s.sessions
   pub numbered : AreNumbered s.last_query s.waiting s.running
+  -- with the event's own entry still to be made, from its change or the first deadline on until it is made
   pub room : RoomOf entries statements s
 
+-- And where no change waits to be settled, with more of the bytes.
 pub record IsHealthyWith (entries statements : ℕ) (s : State) : Type 0 where
   pub sound : IsSound s.definitions
   pub sized : AreSized s.definitions s.actual s.counters
   pub there : AreThere s.definitions s.sessions s.waiting s.running
+  -- after every step but a change and the ends that stand before the shuffle
   pub covered : AreCovered s.definitions (holdings_of s)
   pub in_phase : AreInPhase s.sessions s.waiting s.running
   pub opened : AreOpened s.last_session s.sessions

@@ -1,6 +1,7 @@
 -- How many entries the journal may still get: those that live queries and open sessions may make.
-use Rattle.std.specs.Prelude.{ℕ, ◌+◌, ◌-◌, ◌*◌, is_some, length, sum_by, count_by, if◌then◌else◌}
+use Rattle.std.specs.Prelude.{ℕ, ◌+◌, ◌-◌, ◌*◌, List, is_some, length, sum_by, count_by, if◌then◌else◌}
 use Rattle.rm_base.specs.declared.limits.TheConstants.{ENTRIES_A_SESSION, MOVES_MOST}
+use Rattle.rm_rules.specs.declared.state.Session.{Session}
 use Rattle.rm_rules.specs.declared.state.Waiter.{Waiter}
 use Rattle.rm_rules.specs.declared.state.Runner.{Runner}
 use Rattle.rm_rules.specs.State.{State, is_ended}
@@ -21,7 +22,10 @@ entries_running r =
     (if is_some r.leaving then entries_moving (r.moves - 1) - 1 else entries_moving r.moves) + (if r.cancelled then 1 else 2)
 
 -- An end that nobody has collected makes one.
+abbrev pub owed : List Session → List Waiter → List Runner → ℕ
+owed sessions waiting running =
+    sum_by entries_waiting waiting + sum_by entries_running running
+    + count_by (λ x. is_ended x.phase) sessions + ENTRIES_A_SESSION * length sessions
+
 abbrev pub entries_owed : State → ℕ
-entries_owed s =
-    sum_by entries_waiting s.waiting + sum_by entries_running s.running
-    + count_by (λ x. is_ended x.phase) s.sessions + ENTRIES_A_SESSION * length s.sessions
+entries_owed s = owed s.sessions s.waiting s.running
