@@ -1,6 +1,7 @@
 pub mod Places
 pub mod Ends
 pub mod Running
+pub mod Submitting
 pub mod Inside
 pub mod Defining
 pub mod Looping

@@ -1,5 +1,6 @@
 //! Submit: a new query.
-ghost use Rattle.std.specs.Prelude.{◌≡◌, true, Some, Ok, Err, IfOk, IfErr, IfNone, OnErr};
+ghost use Rattle.std.specs.Prelude.{◌≡◌, ◌<◌, ◌+◌, ◌^◌, true, false, length, Some, Ok, Err, IfOk, IfErr, IfNone, OnErr};
+ghost use Rattle.rm_base.specs.declared.limits.TheConstants.{SESSIONS_MOST};
 
 use super::Machine;
 use crate::done::Done;
@@ -11,9 +12,10 @@ use rm_rules::state::{Phase, Session, Waiter};
 
 impl Machine {
     ghost use Rattle.rm_rules.specs.State.{session_called, is_idle};
-    ghost use Rattle.rm_rules.specs.Change.{size_refusal, submitting_refusal, submitting};
+    ghost use Rattle.rm_rules.specs.Change.{size_refusal, submitting_refusal, submitted, submitting};
     ghost use Rattle.rm_rules.specs.Sound.{IsSound};
     ghost use Rattle.rm_rules.specs.Healthy.{IsHealthy};
+    ghost use Rattle.pool_queue.specs.Queue.{has_query};
     ghost use Rattle.machine.specs.Done.{change_to};
 
     /// Why a query of this user with this floor is too large for the pool.
@@ -53,18 +55,13 @@ impl Machine {
         None
     }
 
-    /// A new query of the session joins the queue in the session's pool.
-    pub fn submit(&mut self, x: &Session, floor: u64) -> Result<Done, Refusal>
-        requires healthy { IsHealthy self.old }
-        requires open { session_called self.old.sessions x.now.number ≡ Some x.now }
-        ensures ok { IfOk result (λ done. submitting self.old floor x.now ≡ Ok (change_to self.new done)) }
-        ensures err { IfErr result (λ refusal. submitting self.old floor x.now ≡ Err refusal) }
-        ensures kept { OnErr result (self.new ≡ self.old) }
+    /// A new query of the session joins the queue of the pool now.
+    fn enqueue(&mut self, x: &Session, pool: Name, floor: u64)
+        requires room { length self.old.waiting < SESSIONS_MOST }
+        requires absent { has_query self.old.waiting (self.old.last_query + 1) ≡ false }
+        requires fits { self.old.last_query + 1 < 2 ^ 64 }
+        ensures { self.new ≡ (submitted self.old x.now pool floor).state }
     {
-        let pool = self.session_pool(x);
-        if let Some(refusal) = self.submitting_refusal(x, pool, floor) {
-            return Err(refusal);
-        }
         let query = self.last_query + 1;
         self.waiting.join(Waiter {
             query,
@@ -78,6 +75,21 @@ impl Machine {
         });
         set_phase(&mut self.sessions, x.number, Phase::Waiting);
         self.last_query = query;
+    }
+
+    /// The session submits a query with this floor to its pool.
+    pub fn submit(&mut self, x: &Session, floor: u64) -> Result<Done, Refusal>
+        requires healthy { IsHealthy self.old }
+        requires open { session_called self.old.sessions x.now.number ≡ Some x.now }
+        ensures ok { IfOk result (λ done. submitting self.old floor x.now ≡ Ok (change_to self.new done)) }
+        ensures err { IfErr result (λ refusal. submitting self.old floor x.now ≡ Err refusal) }
+        ensures kept { OnErr result (self.new ≡ self.old) }
+    {
+        let pool = self.session_pool(x);
+        if let Some(refusal) = self.submitting_refusal(x, pool, floor) {
+            return Err(refusal);
+        }
+        self.enqueue(x, pool, floor);
         Ok(Done::changing(Answer::Collects(x.number)))
     }
 }

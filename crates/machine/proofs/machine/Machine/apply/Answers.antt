@@ -29,7 +29,15 @@ returns-then-done-clause-entry c =
     ∙ sym (ap (λ (o : Outcome). o.entry) (step-entered c.args.self.now c.args.seat c.args.at c.args.event.now c.attempt_at-done.new.self c.attempt_at-done.result c.attempt_at-done.ensures c.if-done.true))
 
 pub returns-else-done-clause-state : goal.returns-else-done-clause-state
-returns-else-done-clause-state c = ?
+returns-else-done-clause-state c =
+    let s = c.args.self.now in
+    let t = c.attempt_at-done.new.self in
+    let done = c.attempt_at-done.result in
+    let moved = moved-quiet s c.args.seat c.args.at c.args.event.now t done c.attempt_at-done.ensures c.if-done.false in
+    c.leave.ensures.state
+    ∙ ap (λ (u : State). let v : State = record u { clock = c.self.inside.clock } in v) moved
+    ∙ ap (λ (u : State). let v : State = record s { clock = u.clock } in v) c.self.view_is
+    ∙ sym (ap (λ (o : Outcome). o.state) (step-quiet s c.args.seat c.args.at c.args.event.now t done c.attempt_at-done.ensures c.if-done.false))
 
 pub returns-else-done-clause-reply : goal.returns-else-done-clause-reply
 returns-else-done-clause-reply c =
