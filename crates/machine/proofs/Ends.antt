@@ -1,5 +1,5 @@
 -- The counters, where a query of a pool has ended.
-use Rattle.std.proofs.Common.{◌≡◌, ◌<◌, ◌≤◌, ℕ, ◌+◌, suc, Bool, true, false, cond, not, Option, Some, None, List, [], ◌∷◌, length, get_or, refl, ap, ◌∙◌, arith, position, set}
+use Rattle.std.proofs.Common.{◌≡◌, ◌<◌, ◌≤◌, ℕ, ◌+◌, suc, Bool, true, false, cond, not, Option, Some, None, List, [], ◌∷◌, length, get_or, refl, sym, ap, ◌∙◌, arith, position, set}
 use Rattle.std.specs.List.{position_or_len}
 use Rattle.rm_base.specs.declared.entry.EndCounts.{EndCounts}
 use Rattle.rm_base.specs.declared.name.Name.{Name}
@@ -29,7 +29,7 @@ end-first (r ∷ rs) pool end [] d sizes within = absurd (omega (arith, sizes))
 end-first (r ∷ rs) pool end (c ∷ cs) d sizes within =
     end-turn r rs pool end c cs d (same_name r.name pool) (end-first rs pool end cs d (omega (arith, sizes))) within
 
-pub with_end-found : (rs : List PoolRow) (pool : Name) (end : End) (cs : List EndCounts) (d : EndCounts) (i : ℕ) → length cs ≡ length rs → position (λ r. same_name r.name pool) rs ≡ Some i
+with_end-found : (rs : List PoolRow) (pool : Name) (end : End) (cs : List EndCounts) (d : EndCounts) (i : ℕ) → length cs ≡ length rs → position (λ r. same_name r.name pool) rs ≡ Some i
     → with_end rs pool end cs ≡ set cs i (with_one_end end (get_or cs i d))
 with_end-found rs pool end cs d i sizes found =
     let same : place pool rs ≡ i = position-is (λ r. same_name r.name pool) rs i found in
@@ -48,3 +48,11 @@ end-none (r ∷ rs) pool end (c ∷ cs) sizes past = none-turn r rs pool end c c
 pub with_end-absent : (rs : List PoolRow) (pool : Name) (end : End) (cs : List EndCounts) → length cs ≡ length rs → (let o : Option ℕ = None in position (λ r. same_name r.name pool) rs ≡ o) → with_end rs pool end cs ≡ cs
 with_end-absent rs pool end cs sizes absent =
     end-none rs pool end cs sizes (position-past (λ r. same_name r.name pool) rs absent)
+
+-- the counts, set in their place
+pub with_end-set : (rs : List PoolRow) (pool : Name) (end : End) (cs ls ys : List EndCounts) (d x : EndCounts) (i : ℕ) → length cs ≡ length rs → position (λ r. same_name r.name pool) rs ≡ Some i
+    → ls ≡ cs → x ≡ with_one_end end (get_or ls i d) → ys ≡ set cs i x → ys ≡ with_end rs pool end cs
+with_end-set rs pool end cs ls ys d x i sizes found same is now =
+    now
+    ∙ ap (λ (c : EndCounts). set cs i c) (is ∙ ap (λ (l : List EndCounts). with_one_end end (get_or l i d)) same)
+    ∙ sym (with_end-found rs pool end cs d i sizes found)

@@ -1,32 +1,28 @@
 -- What a desk keeps, at its beginning and after each event.
-use Rattle.std.proofs.Common.{◌≡◌, ℕ, Bool, true, false, ◌||◌, cond, refl, sym, ap, ◌∙◌, subst}
+use Rattle.std.proofs.Common.{◌≡◌, ℕ, ◌||◌, refl, sym, ap, ◌∙◌, subst}
 use Rattle.rm_base.specs.declared.definitions.Definitions.{Definitions}
 use Rattle.rm_base.specs.declared.event.Event.{Event}
 use Rattle.rm_rules.specs.State.{State, start}
 use Rattle.rm_rules.specs.Settle.{settled}
-use Rattle.rm_rules.specs.Change.{Change, reply_of}
-use Rattle.rm_rules.specs.Step.{Outcome, accepted, quietly, moved_to, has_due, found_at, attempted, step, replay, IsFormed, IsLegal}
+use Rattle.rm_rules.specs.Step.{moved_to, has_due, found_at, attempted, step}
+use Rattle.rm_rules.specs.Replay.{replay, IsFormed, IsLegal}
 use Rattle.rm_rules.specs.Sound.{IsSound}
-use Rattle.rm_rules.proofs.Settling.{due-keeps, room-settled}
-use Rattle.rm_rules.proofs.Changing.{IsTried, tried-is, rest-tried}
+use Rattle.rm_rules.proofs.Settling.{rest-settled, rest-due}
+use Rattle.rm_rules.proofs.Changing.{tried-is, rest-tried}
 use Rattle.rm_rules.proofs.Answering.{beside-answered}
+use Rattle.rm_rules.proofs.Stepping.{outcome-turn}
 use Rattle.rm_rules.proofs.Laws.{healthy-start, healthy-step, legal-step, replay-step}
 use Rattle.machine.specs.Desk.{DeskState, beginning, IsKept}
 
 -- no event changes the journal's room
-room-found : (s : State) (at : ℕ) → (found_at s at).room ≡ s.room
-room-found s at = due-keeps (λ t. t.room ≡ s.room) (λ t w e p. p) (moved_to s at) refl
-
-room-turn : (s : State) (seat at : ℕ) (event : Event) (c : Change) (b : Bool) → IsTried (found_at s at) seat event c
-    → (let o : Outcome = cond b (accepted seat event (settled c.state) c.answer) (quietly s (reply_of c.state c.answer)) in o.state.room ≡ s.room)
-room-turn s seat at event c true is =
-    ap (λ (t : State). t.room) (beside-answered (settled c.state) c.answer).beside ∙ room-settled c.state ∙ (rest-tried (found_at s at) seat event c is).room ∙ room-found s at
-room-turn s seat at event c false is = refl
-
 room-step : (s : State) (seat at : ℕ) (event : Event) → (step s seat at event).state.room ≡ s.room
 room-step s seat at event =
     let c = attempted (found_at s at) seat event in
-    room-turn s seat at event c (has_due s at || c.changed) (tried-is (found_at s at) seat event)
+    outcome-turn (λ o. o.state.room ≡ s.room) s seat event c (has_due s at || c.changed)
+    (λ settles.
+    ap (λ (t : State). t.room) (beside-answered (settled c.state) c.answer).beside
+    ∙ (rest-settled c.state).room ∙ (rest-tried (found_at s at) seat event c (tried-is (found_at s at) seat event)).room ∙ (rest-due (moved_to s at)).room)
+    (λ still. refl)
 
 pub kept-start : (d : Definitions) (room : ℕ) → IsSound d → IsKept (record { first = d; state = start d room })
 kept-start d room sound = record { sound = sound; healthy = healthy-start d room sound; legal = tt; replays = refl }

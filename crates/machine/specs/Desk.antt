@@ -2,7 +2,7 @@
 use Rattle.std.specs.Prelude.{◌≡◌}
 use Rattle.rm_base.specs.declared.definitions.Definitions.{Definitions}
 use Rattle.rm_rules.specs.State.{State, start}
-use Rattle.rm_rules.specs.Step.{replay, IsLegal}
+use Rattle.rm_rules.specs.Replay.{replay, IsLegal}
 use Rattle.rm_rules.specs.Sound.{IsSound}
 use Rattle.rm_rules.specs.Healthy.{IsHealthy}
 

@@ -1,6 +1,5 @@
-pub mod Capacity
-pub mod Answers
-pub mod Refusals
+pub mod Done
+pub mod Inside
 pub mod Settling
 pub mod Looked
 pub mod Desk

@@ -16,6 +16,7 @@ use Rattle.rm_rules.specs.declared.state.Session.{Session}
 use Rattle.rm_rules.specs.declared.state.Runner.{Runner}
 use Rattle.rm_rules.specs.declared.state.Waiter.{Waiter}
 use Rattle.rm_rules.specs.State.{State, session_pool}
+use Rattle.rm_rules.specs.Holdings.{holdings_of}
 use Rattle.rm_rules.specs.Accounting.{accounts}
 
 -- what a query is doing, without how it ended
@@ -54,7 +55,7 @@ snapshot_of s = record {
   in_force = s.in_force;
   actual = s.actual;
   sessions = map (session_seen s.definitions) s.sessions;
-  running = map running_seen (zip s.running (accounts s));
+  running = map running_seen (zip s.running (accounts (holdings_of s)));
   waiting = map waiting_seen s.waiting;
   counters = s.counters;
   moves = s.moves;

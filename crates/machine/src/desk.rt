@@ -29,10 +29,12 @@ impl Model for Desk {
 
 impl Desk {
     ghost use Rattle.rm_rules.specs.State.{start};
-    ghost use Rattle.rm_rules.specs.Step.{step, replay, IsFormed, IsLegal};
+    ghost use Rattle.rm_rules.specs.Step.{step};
+    ghost use Rattle.rm_rules.specs.Replay.{replay, IsFormed, IsLegal};
     ghost use Rattle.rm_rules.specs.Sound.{IsSound};
     ghost use Rattle.rm_rules.specs.Healthy.{IsHealthy};
     ghost use Rattle.rm_rules.specs.Conserved.{ConservedAfterEach};
+    ghost use Rattle.rm_rules.specs.Grants.{BytesAreKept};
     ghost use Rattle.machine.specs.Desk.{DeskState, beginning};
     ghost use Rattle.machine.specs.Looked.{looked_of};
 
@@ -61,10 +63,12 @@ impl Desk {
     /// The history. Its clauses say what every desk keeps.
     pub fn entries(&self) -> &[Entry]
         ensures entries { result.now ≡ self.now.state.journal }
+        ensures sound { IsSound self.now.first }
         ensures legal { IsLegal (beginning self.now) self.now.state.journal }
         ensures replays { replay (beginning self.now) self.now.state.journal ≡ self.now.state }
         ensures healthy { IsHealthy self.now.state }
         ensures conserved { ConservedAfterEach (beginning self.now) self.now.state.journal }
+        ensures bytes { BytesAreKept (beginning self.now) self.now.state.journal }
     {
         self.machine.entries()
     }
@@ -77,9 +81,12 @@ impl Desk {
         self.machine.definitions()
     }
 
-    /// The state as it stands, with the journal's length.
+    /// The state as it stands, with the journal's length. It is the one that a legal history leaves.
     pub fn look(&self, alloc: Global) -> Result<Looked, AllocError>
-        ensures { IfOk result (λ looked. looked ≡ looked_of self.now.state) }
+        ensures looked { IfOk result (λ looked. looked ≡ looked_of self.now.state) }
+        ensures sound { IsSound self.now.first }
+        ensures legal { IsLegal (beginning self.now) self.now.state.journal }
+        ensures replays { replay (beginning self.now) self.now.state.journal ≡ self.now.state }
     {
         Ok(Looked {
             snapshot: self.machine.look(alloc)?,
@@ -87,6 +94,3 @@ impl Desk {
         })
     }
 }
-
-#[cfg(test)]
-mod tests;

@@ -1,54 +1,57 @@
 //! The state of the pool machine in memory, and what an event does to it.
-ghost use Rattle.std.specs.Prelude.{◌≡◌, ◌<◌, ◌≤◌, ◌+◌, true, false, map, length, vec_capacity, IfOk};
-ghost use Rattle.rm_base.specs.declared.limits.TheConstants.{POOLS_MOST, CHANGES_MOST};
-ghost use Rattle.rm_rules.specs.State.{no_ends, is_defined};
+ghost use Rattle.std.specs.Prelude.{◌≡◌, ◌<◌, ◌≤◌, ◌+◌, true, false, map, length, IfOk};
+ghost use Rattle.rm_base.specs.declared.limits.TheConstants.{POOLS_MOST, CHANGES_MOST, ENTRIES_BEYOND};
+ghost use Rattle.rm_rules.specs.State.{none_ended, is_defined};
 
-use crate::counters::none_ended;
-use crate::told::{Done, Told};
+use crate::counters::{Counters, none_ended};
+use crate::done::Done;
+use crate::sessions::{Runners, Sessions};
 use accounts::Accounts;
 use pool_queue::Queue;
+use rm_base::bounded::Bounded;
 use rm_base::definitions::Definitions;
-use rm_base::entry::{Answered, EndCounts, Entry, MoveSeen};
+use rm_base::entry::{Answered, Entry, MoveSeen};
 use rm_base::event::Event;
-use rm_base::limits::{CHANGES_MOST, MOVES_KEPT, POOLS_MOST, SESSIONS_MOST};
+use rm_base::limits::{CHANGES_MOST, ENTRIES_BEYOND, MOVES_KEPT};
 use rm_base::moment::Moment;
 use rm_base::reply::Reply;
 use rm_base::rows::PoolRow;
-use rm_rules::state::{Runner, Session};
+use rm_rules::answer::Answer;
 use std::alloc::{AllocError, Global};
 use std::marker::Model;
 
-mod choosing;
-mod defining;
+mod choose;
+mod define;
 mod ends;
 mod events;
+mod finish;
 mod fit;
 mod look;
-mod polling;
+mod open;
+mod poll;
 mod settle;
-mod shuffle;
+mod submit;
 mod told;
 
-/// How many entries the journal holds beyond its room and those of accepted statements, for queries that make more
-/// than were kept free.
-pub const ENTRIES_BEYOND: usize = 1_408;
+/// The last moves.
+type Moves = Bounded<MoveSeen, MOVES_KEPT>;
 
 /// The pools, the queries and the journal, with room for all that there may ever be.
 #[derive(Debug, Drop)]
 pub struct Machine {
     definitions: Definitions,
     accounts: Accounts,
-    sessions: Vec<Session>,
-    running: Vec<Runner>,
+    sessions: Sessions,
+    running: Runners,
     waiting: Queue,
     clock: Moment,
-    counters: Vec<EndCounts>,
-    moves: Vec<MoveSeen>,
+    counters: Counters,
+    moves: Moves,
     last_session: u32,
     last_query: u64,
     journal: Vec<Entry>,
     room: u32,
-    counted: u32,
+    counted: u64,
 }
 
 impl Model for Machine {
@@ -56,27 +59,26 @@ impl Model for Machine {
 
     ghost Value = { State };
 
-    ghost use Rattle.machine.specs.Capacity.{seen, HasCapacity};
+    ghost use Rattle.machine.specs.Inside.{seen, IsTied};
 
     ghost view = { seen };
 
-    ghost invariant = { HasCapacity };
+    ghost invariant = { IsTied };
 }
 
-/// No ended query for each pool, with room for all pools that may be.
-fn no_ends(alloc: Global, pools: &[PoolRow]) -> Result<Vec<EndCounts>, AllocError>
+/// No ended query for each pool.
+fn first_counters(alloc: Global, pools: &[PoolRow]) -> Result<Counters, AllocError>
     requires { length pools.now ≤ POOLS_MOST }
-    ensures items { IfOk result (λ counters. counters.items ≡ map (λ _. no_ends) pools.now) }
-    ensures room { IfOk result (λ counters. POOLS_MOST ≤ vec_capacity counters) }
+    ensures { IfOk result (λ counters. counters ≡ map (λ _. none_ended) pools.now) }
 {
-    let mut counters = Vec::with_capacity(alloc, POOLS_MOST)?;
+    let mut counters = Counters::new(alloc)?;
     for _row in pools {
-        counters.push_reserved(none_ended());
+        counters.add(none_ended());
     }
     Ok(counters)
 }
 
-/// The entry is one of an accepted statement.
+/// The reply accepts a statement.
 fn is_defined(reply: &Reply) -> bool
     ensures { result ≡ is_defined reply.now }
 {
@@ -84,13 +86,14 @@ fn is_defined(reply: &Reply) -> bool
 }
 
 impl Machine {
-    ghost use Rattle.rm_rules.specs.State.{start, counted_entries};
-    ghost use Rattle.rm_rules.specs.Change.{reply_of};
+    ghost use Rattle.rm_rules.specs.State.{start};
     ghost use Rattle.rm_rules.specs.Settle.{settled};
-    ghost use Rattle.rm_rules.specs.Step.{moved_to, recorded, accepted, attempted, step, IsFormed};
+    ghost use Rattle.rm_rules.specs.Answers.{reply_of};
+    ghost use Rattle.rm_rules.specs.Step.{moved_to, recorded, entered, attempted, step};
+    ghost use Rattle.rm_rules.specs.Replay.{IsFormed};
     ghost use Rattle.rm_rules.specs.Sound.{IsSound};
     ghost use Rattle.rm_rules.specs.Healthy.{IsHealthy, IsUnsettled};
-    ghost use Rattle.machine.specs.Answers.{answer_of, change_to};
+    ghost use Rattle.machine.specs.Done.{change_to, attempted_at};
 
     /// The machine at the start. It takes all memory that it will ever use.
     pub fn new(alloc: Global, definitions: Definitions, room: u32) -> Result<Machine, AllocError>
@@ -99,16 +102,16 @@ impl Machine {
     {
         let entries = room as usize + ENTRIES_BEYOND + CHANGES_MOST as usize;
         let accounts = Accounts::new(alloc, &definitions)?;
-        let counters = no_ends(alloc, definitions.pools.rows())?;
+        let counters = first_counters(alloc, definitions.pools.rows())?;
         Ok(Machine {
             definitions,
             accounts,
-            sessions: Vec::with_capacity(alloc, SESSIONS_MOST)?,
-            running: Vec::with_capacity(alloc, SESSIONS_MOST)?,
+            sessions: Sessions::new(alloc)?,
+            running: Runners::new(alloc)?,
             waiting: Queue::new(alloc)?,
             clock: Moment::of(0),
             counters,
-            moves: Vec::with_capacity(alloc, MOVES_KEPT)?,
+            moves: Moves::new(alloc)?,
             last_session: 0,
             last_query: 0,
             journal: Vec::with_capacity(alloc, entries)?,
@@ -141,25 +144,9 @@ impl Machine {
         before
     }
 
-    /// An event that changed nothing leaves the clock as it was before it, too.
-    fn leave(&mut self, before: Moment, reply: Reply) -> Answered
-        ensures state { self.new ≡ record self.old { clock = before } }
-        ensures reply { result.reply ≡ reply }
-        ensures entry { result.entry ≡ false }
-        ensures place { result.place ≡ length self.new.journal }
-    {
-        self.clock = before;
-        Answered {
-            reply,
-            place: self.journal.len() as u64,
-            entry: false,
-        }
-    }
-
     /// One entry more.
     fn record_entry(&mut self, entry: Entry)
-        requires room { length self.old.journal < self.old.room + ENTRIES_BEYOND + CHANGES_MOST }
-        requires counted { is_defined entry.reply ≡ false → counted_entries self.old.journal < self.old.room }
+        requires { length self.old.journal < self.old.room + ENTRIES_BEYOND + CHANGES_MOST }
         ensures { self.new ≡ recorded self.old entry }
     {
         if !is_defined(&entry.reply) {
@@ -168,17 +155,44 @@ impl Machine {
         self.journal.push_reserved(entry);
     }
 
+    /// What the event does as the state stands; one that is refused changes nothing.
+    fn attempt(&mut self, seat: u32, event: &Event) -> Done
+        requires healthy { IsHealthy self.old }
+        requires formed { IsFormed event.now }
+        ensures { attempted self.old seat event.now ≡ change_to self.new result }
+    {
+        match self.change(seat, event) {
+            Ok(done) => done,
+            Err(refusal) => Done::quiet(Answer::Says(Reply::Refused(refusal))),
+        }
+    }
+
+    /// What the event does at the moment, behind the deadlines that have come. That one has come changes something, too.
+    fn attempt_at(&mut self, seat: u32, at: Moment, event: &Event) -> Done
+        requires healthy { IsHealthy self.old }
+        requires formed { IsFormed event.now }
+        ensures { attempted_at self.old seat at event.now ≡ change_to self.new result }
+    {
+        self.move_to(at);
+        let timed = self.end_due();
+        let done = self.attempt(seat, event);
+        Done {
+            answer: done.answer,
+            changed: timed || done.changed,
+        }
+    }
+
     /// What changed settles, the answer is given, and the entry is made.
-    fn accept(&mut self, seat: u32, event: &Event, told: Told) -> Answered
-        requires { IsUnsettled (answer_of told) self.old }
-        ensures state { self.new ≡ (accepted seat event.now (settled self.old) (answer_of told)).state }
-        ensures reply { result.reply ≡ reply_of (settled self.old) (answer_of told) }
+    fn enter(&mut self, seat: u32, event: &Event, answer: Answer) -> Answered
+        requires { IsUnsettled answer self.old }
+        ensures state { self.new ≡ (entered seat event.now (settled self.old) answer).state }
+        ensures reply { result.reply ≡ reply_of (settled self.old) answer }
         ensures entry { result.entry ≡ true }
         ensures place { result.place ≡ length self.new.journal }
     {
         self.settle();
-        let reply = self.reply_of(told);
-        self.answered(told);
+        let reply = self.reply_of(answer);
+        self.collect(answer);
         self.record_entry(Entry {
             seat,
             at: self.clock,
@@ -192,30 +206,20 @@ impl Machine {
         }
     }
 
-    /// An event that changed nothing is told how things stand.
-    fn answer(&mut self, before: Moment, told: Told) -> Answered
+    /// An event that changed nothing is answered as things stand, and leaves the clock as it was before it.
+    fn leave(&mut self, before: Moment, answer: Answer) -> Answered
         requires { IsHealthy self.old }
         ensures state { self.new ≡ record self.old { clock = before } }
-        ensures reply { result.reply ≡ reply_of self.old (answer_of told) }
+        ensures reply { result.reply ≡ reply_of self.old answer }
         ensures entry { result.entry ≡ false }
         ensures place { result.place ≡ length self.new.journal }
     {
-        let reply = self.reply_of(told);
-        self.leave(before, reply)
-    }
-
-    /// What the event does as the state stands; one that is refused changes nothing.
-    fn attempt(&mut self, seat: u32, event: &Event) -> Done
-        requires healthy { IsHealthy self.old }
-        requires formed { IsFormed event.now }
-        ensures { attempted self.old seat event.now ≡ change_to self.new result }
-    {
-        match self.change(seat, event) {
-            Ok(done) => done,
-            Err(refusal) => Done {
-                told: Told::Says(Reply::Refused(refusal)),
-                changed: false,
-            },
+        let reply = self.reply_of(answer);
+        self.clock = before;
+        Answered {
+            reply,
+            place: self.journal.len() as u64,
+            entry: false,
         }
     }
 
@@ -228,13 +232,12 @@ impl Machine {
         ensures entry { result.entry ≡ (step self.old seat at event.now).entry }
         ensures place { result.place ≡ length self.new.journal }
     {
-        let before = self.move_to(at);
-        let timed = self.end_due();
-        let done = self.attempt(seat, event);
-        if timed || done.changed {
-            self.accept(seat, event, done.told)
+        let before = self.clock;
+        let done = self.attempt_at(seat, at, event);
+        if done.changed {
+            self.enter(seat, event, done.answer)
         } else {
-            self.answer(before, done.told)
+            self.leave(before, done.answer)
         }
     }
 }

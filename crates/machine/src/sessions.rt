@@ -1,10 +1,19 @@
 //! Sessions, and the queries of a session.
-ghost use Rattle.std.specs.Prelude.{◌≡◌, ◌<◌, ◌≤◌, ◌+◌, ◌^◌, ◌==◌, IfSome, position, length, vec_capacity};
+ghost use Rattle.std.specs.Prelude.{◌≡◌, ◌<◌, ◌≤◌, ◌==◌, IfSome, position, length};
 ghost use Rattle.rm_rules.specs.State.{session_called, phase_of, with_phase, with_choice, without_runner, is_idle, is_running, is_ended, live_queries};
-ghost use Rattle.rm_rules.specs.Change.{has_chosen, runner_of, waiter_of};
+ghost use Rattle.rm_rules.specs.Change.{has_chosen, runner_of};
+ghost use Rattle.rm_rules.specs.Answers.{waiter_of};
 
+use rm_base::bounded::Bounded;
+use rm_base::limits::SESSIONS_MOST;
 use rm_base::name::Name;
 use rm_rules::state::{Phase, Runner, Session, Waiter};
+
+/// The open sessions, in the order in which they were opened.
+pub type Sessions = Bounded<Session, SESSIONS_MOST>;
+
+/// The running queries, in the order in which they began.
+pub type Runners = Bounded<Runner, SESSIONS_MOST>;
 
 pub fn session_called(sessions: &[Session], number: u32) -> Option<Session>
     ensures { result ≡ session_called sessions.now number }
@@ -57,7 +66,8 @@ pub fn phase_of(sessions: &[Session], number: u32) -> Phase
 
 /// How many sessions have a live query.
 pub fn live_queries(sessions: &[Session]) -> usize
-    ensures { result ≡ live_queries sessions.now }
+    ensures value { result ≡ live_queries sessions.now }
+    ensures most { result ≤ length sessions.now }
 {
     sessions.iter().filter(|x| !is_idle(x.phase)).count()
 }
@@ -70,11 +80,15 @@ fn place_of_session(sessions: &[Session], number: u32) -> Option<usize>
 }
 
 /// The session of this number goes over to this phase.
-pub fn set_phase(sessions: &mut [Session], number: u32, now: Phase)
+pub fn set_phase(sessions: &mut Sessions, number: u32, now: Phase)
     ensures { sessions.new ≡ with_phase number now sessions.old }
 {
-    if let Some(place) = place_of_session(sessions, number) {
-        sessions[place].phase = now;
+    if let Some(place) = place_of_session(sessions.rows(), number) {
+        let session = sessions.rows()[place];
+        sessions.set(place, Session {
+            phase: now,
+            ..session
+        });
     }
 }
 
@@ -89,11 +103,15 @@ pub fn has_chosen(x: &Session, pool: Name) -> bool
 }
 
 /// The session of this number chooses this pool.
-pub fn choose(sessions: &mut [Session], number: u32, pool: Name)
+pub fn set_choice(sessions: &mut Sessions, number: u32, pool: Name)
     ensures { sessions.new ≡ with_choice number pool sessions.old }
 {
-    if let Some(place) = place_of_session(sessions, number) {
-        sessions[place].pool = Some(pool);
+    if let Some(place) = place_of_session(sessions.rows(), number) {
+        let session = sessions.rows()[place];
+        sessions.set(place, Session {
+            pool: Some(pool),
+            ..session
+        });
     }
 }
 
@@ -117,11 +135,10 @@ fn place_of_runner(running: &[Runner], session: u32) -> Option<usize>
 }
 
 /// Takes the session's query out of those that run.
-pub fn take_runner(running: &mut Vec<Runner>, session: u32)
-    ensures items { running.new.items ≡ without_runner session running.old.items }
-    ensures room { vec_capacity running.new ≡ vec_capacity running.old }
+pub fn remove_runner(running: &mut Runners, session: u32)
+    ensures { running.new ≡ without_runner session running.old }
 {
-    if let Some(place) = place_of_runner(running, session) {
+    if let Some(place) = place_of_runner(running.rows(), session) {
         running.remove(place);
     }
 }

@@ -56,7 +56,7 @@ names-turn : (row r : PoolRow) (rs : List PoolRow) (b : Bool) → same_name r.na
 names-turn row r rs true e there rest = ap (λ n. n ∷ names rs) (sym (same_name-eq r.name row.name e))
 names-turn row r rs false e there rest = ap (λ ns. r.name ∷ ns) (rest there)
 
-names-there : (row : PoolRow) (pools : List PoolRow) → is_some (pool_called pools row.name) ≡ true → names (with_row row pools) ≡ names pools
+pub names-there : (row : PoolRow) (pools : List PoolRow) → is_some (pool_called pools row.name) ≡ true → names (with_row row pools) ≡ names pools
 names-there row [] there = absurd (false≢true there)
 names-there row (r ∷ rs) there = names-turn row r rs (same_name r.name row.name) refl there (names-there row rs)
 
@@ -65,7 +65,7 @@ last-turn : (row r : PoolRow) (rs : List PoolRow) (b : Bool) → is_some (cond b
 last-turn row r rs true absent rest = absurd (false≢true (sym absent))
 last-turn row r rs false absent rest = ap (λ l. r ∷ l) (rest absent)
 
-last-absent : (row : PoolRow) (pools : List PoolRow) → is_some (pool_called pools row.name) ≡ false → with_row row pools ≡ pools ++ row ∷ []
+pub last-absent : (row : PoolRow) (pools : List PoolRow) → is_some (pool_called pools row.name) ≡ false → with_row row pools ≡ pools ++ row ∷ []
 last-absent row [] absent = refl
 last-absent row (r ∷ rs) absent = last-turn row r rs (same_name r.name row.name) absent (last-absent row rs)
 
@@ -108,7 +108,7 @@ used-absent d name (r ∷ rs) absent all =
     )
 
 -- the pools behind GENERAL, by their names and their number
-user_named : (pools others : List PoolRow) → names pools ≡ names others → names (user_pools pools) ≡ names (user_pools others)
+pub user_named : (pools others : List PoolRow) → names pools ≡ names others → names (user_pools pools) ≡ names (user_pools others)
 user_named [] [] e = refl
 user_named [] (o ∷ os) e = let none : [] ≡ o.name ∷ names os = e in absurd (cc)
 user_named (r ∷ rs) [] e = let none : r.name ∷ names rs ≡ [] = e in absurd (cc)
@@ -118,17 +118,17 @@ user_length : (pools : List PoolRow) → length (user_pools pools) ≡ length po
 user_length [] = refl
 user_length (r ∷ rs) = omega arith
 
-user_push : (pools : List PoolRow) (row : PoolRow) → begins_with_general pools ≡ true → user_pools (pools ++ row ∷ []) ≡ user_pools pools ++ row ∷ []
+pub user_push : (pools : List PoolRow) (row : PoolRow) → begins_with_general pools ≡ true → user_pools (pools ++ row ∷ []) ≡ user_pools pools ++ row ∷ []
 user_push [] row begins = absurd (false≢true begins)
 user_push (r ∷ rs) row begins = refl
 
 -- where no pool comes in, the lists of one item a pool stay; where one does, each gets its item
-place-same : {A : Type 0} (old new : Definitions) (x : A) (xs : List A) → length new.pools ≡ length old.pools → with_place old new x xs ≡ xs
+pub place-same : {A : Type 0} (old new : Definitions) (x : A) (xs : List A) → length new.pools ≡ length old.pools → with_place old new x xs ≡ xs
 place-same old new x xs e =
     let is : ltb (length old.pools) (length new.pools) ≡ false = grind (arith, nat_tests) in
     ap (λ b. cond b (xs ++ x ∷ []) xs) is
 
-place-more : {A : Type 0} (old new : Definitions) (x : A) (xs : List A) → length new.pools ≡ length old.pools + 1 → with_place old new x xs ≡ xs ++ x ∷ []
+pub place-more : {A : Type 0} (old new : Definitions) (x : A) (xs : List A) → length new.pools ≡ length old.pools + 1 → with_place old new x xs ≡ xs ++ x ∷ []
 place-more old new x xs e =
     let is : ltb (length old.pools) (length new.pools) ≡ true = grind (arith, nat_tests) in
     ap (λ b. cond b (xs ++ x ∷ []) xs) is

@@ -1,70 +1,69 @@
 //! Queries that end in the queue: those that are too large now, and those whose time has come.
-ghost use Rattle.std.specs.Prelude.{◌≡◌, ◌==◌, length, is_some, find, IfSome, IfNone};
-ghost use Rattle.machine.specs.Settling.{end_by};
+ghost use Rattle.std.specs.Prelude.{◌≡◌, ◌==◌, length, is_some, find};
 
 use super::Machine;
 use crate::counters::count_end;
-use crate::deadlines::deadline;
 use crate::sessions::set_phase;
-use rm_base::refusal::Refusal;
+use budgets::least_cap;
+use pool_queue::deadline;
+use rm_base::name::Name;
 use rm_base::reply::End;
-use rm_rules::state::{Phase, Waiter};
-
-/// The end of a query that would be refused so.
-fn end_by(refusal: Refusal) -> Option<End>
-    ensures { result ≡ end_by refusal }
-{
-    match refusal {
-        Refusal::TooLarge(which, floor, cap) => Some(End::TooLarge(which, floor, cap)),
-        _ => None,
-    }
-}
+use rm_rules::state::{Cap, Phase, Waiter};
 
 impl Machine {
+    ghost use Rattle.rm_rules.specs.Definitions.{pool_row};
+    ghost use Rattle.rm_rules.specs.Ask.{least_cap, is_too_large};
     ghost use Rattle.rm_rules.specs.Deadlines.{ended_as, first_due, first_nowait, timed_out, without_due};
-    ghost use Rattle.rm_rules.specs.Settle.{first_too_large, without_too_large, without_nowait};
+    ghost use Rattle.rm_rules.specs.Settle.{first_too_large, too_large_end, without_too_large, without_nowait};
     ghost use Rattle.rm_rules.specs.Sound.{IsSound};
-    ghost use Rattle.rm_rules.specs.Healthy.{IsHeld, AreInPhase, AreNumbered, IsHealthy};
-    ghost use Rattle.machine.specs.Settling.{if_ends, IsSettling, MayLeave};
+    ghost use Rattle.rm_rules.specs.Healthy.{AreNumbered, IsHealthy};
+    ghost use Rattle.machine.specs.Settling.{CanSettle, IsSettling, MayLeave};
 
-    /// How the waiting query ends, where it is too large now.
-    fn if_ends(&self, w: &Waiter) -> Option<End>
+    /// The least cap on what a query of this user can hold in the pool.
+    pub fn least_cap(&self, pool: Name, user: Name) -> Cap
         requires { IsSound self.now.definitions }
-        ensures { result ≡ if_ends self.now w.now }
+        ensures { result ≡ least_cap self.now.definitions (pool_row self.now.definitions pool) user }
     {
-        let refusal = self.if_too_large(w.pool, w.user, w.floor);
-        refusal.and_then(|r| end_by(r))
+        least_cap(&self.definitions, pool, user)
     }
 
-    /// The first waiting query that is too large now, and how it ends.
-    fn first_too_large(&self) -> Option<(Waiter, End)>
+    /// The waiting query's floor is above its least cap.
+    fn is_too_large(&self, w: &Waiter) -> bool
         requires { IsSound self.now.definitions }
-        ensures none { IfNone result (first_too_large self.now ≡ None) }
-        ensures found { IfSome result (λ found. first_too_large self.now ≡ Some found.0) }
-        ensures end { IfSome result (λ found. if_ends self.now found.0 ≡ Some found.1) }
+        ensures { result ≡ is_too_large self.now.definitions (pool_row self.now.definitions w.now.pool) w.now.user w.now.floor }
     {
-        for w in self.waiting.waiters() {
-            if let Some(end) = self.if_ends(w) {
-                return Some((*w, end));
-            }
-        }
-        None
+        self.least_cap(w.pool, w.user).bytes < w.floor
+    }
+
+    /// How a waiting query that is too large ends.
+    fn too_large_end(&self, w: &Waiter) -> End
+        requires { IsSound self.now.definitions }
+        ensures { result ≡ too_large_end self.now w.now }
+    {
+        let least = self.least_cap(w.pool, w.user);
+        End::TooLarge(least.kind, w.floor, least.bytes)
+    }
+
+    /// The first waiting query that is too large now.
+    fn first_too_large(&self) -> Option<Waiter>
+        requires { IsSound self.now.definitions }
+        ensures { result ≡ first_too_large self.now }
+    {
+        let waiting = self.waiting.waiters();
+        waiting.iter().copied().find(|w| self.is_too_large(w))
     }
 
     /// The waiting query of this number.
     pub fn waiter_called(&self, query: u64) -> Option<Waiter>
         ensures { result ≡ find (λ w. w.query == query) self.now.waiting }
     {
-        self.waiting
-            .waiters()
-            .iter()
-            .copied()
-            .find(|w| w.query == query)
+        let waiting = self.waiting.waiters();
+        waiting.iter().copied().find(|w| w.query == query)
     }
 
     /// The first waiting query whose deadline has come.
     fn first_due(&self) -> Option<Waiter>
-        requires { AreNumbered self.now }
+        requires { AreNumbered self.now.last_query self.now.waiting self.now.running }
         ensures { result ≡ first_due self.now }
     {
         let query = self.waiting.due(&self.definitions, self.clock)?;
@@ -73,7 +72,7 @@ impl Machine {
 
     /// The first waiting query of a pool in which none may wait.
     fn first_nowait(&self) -> Option<Waiter>
-        requires { AreNumbered self.now }
+        requires { AreNumbered self.now.last_query self.now.waiting self.now.running }
         ensures { result ≡ first_nowait self.now }
     {
         let query = self.waiting.first_nowait(&self.definitions)?;
@@ -83,7 +82,7 @@ impl Machine {
     /// The waiting query ends so.
     fn end_as(&mut self, w: Waiter, end: End)
         requires counts { length self.old.counters ≡ length self.old.definitions.pools }
-        requires leaves { MayLeave self.old w }
+        requires leaves { MayLeave self.old.waiting w }
         ensures { self.new ≡ ended_as end self.old w }
     {
         let rows = self.definitions.pools.rows();
@@ -96,7 +95,7 @@ impl Machine {
     fn time_out(&mut self, w: Waiter)
         requires sound { IsSound self.old.definitions }
         requires counts { length self.old.counters ≡ length self.old.definitions.pools }
-        requires leaves { MayLeave self.old w }
+        requires leaves { MayLeave self.old.waiting w }
         ensures { self.new ≡ timed_out self.old w }
     {
         let deadline = deadline(&self.definitions, &w);
@@ -105,18 +104,13 @@ impl Machine {
 
     /// Each waiting query that is too large now ends.
     pub fn end_too_large(&mut self)
-        requires sound { IsSound self.old.definitions }
-        requires held { IsHeld self.old }
-        requires in_phase { AreInPhase self.old }
-        requires numbered { AreNumbered self.old }
+        requires { CanSettle self.old }
         ensures state { self.new ≡ without_too_large self.old }
-        ensures sound { IsSound self.new.definitions }
-        ensures held { IsHeld self.new }
-        ensures in_phase { AreInPhase self.new }
-        ensures numbered { AreNumbered self.new }
+        ensures settles { CanSettle self.new }
         ensures small { first_too_large self.new ≡ None }
     {
-        while let Some((w, end)) = self.first_too_large() {
+        while let Some(w) = self.first_too_large() {
+            let end = self.too_large_end(&w);
             self.end_as(w, end);
         }
     }
@@ -138,10 +132,10 @@ impl Machine {
         ensures state { self.new ≡ without_due self.old }
         ensures some { result ≡ is_some (first_due self.old) }
     {
-        let timed = self.first_due().is_some();
+        let some = self.first_due().is_some();
         while let Some(w) = self.first_due() {
             self.time_out(w);
         }
-        timed
+        some
     }
 }

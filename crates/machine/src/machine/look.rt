@@ -7,7 +7,7 @@ use super::Machine;
 use rm_base::entry::{Account, EndCounts, MoveSeen};
 use rm_base::listed::Listed;
 use rm_base::snapshot::{Condition, RunningSeen, SessionSeen, Snapshot, WaitingSeen};
-use rm_rules::state::{Phase, Runner, Session, Waiter};
+use rm_rules::state::{Phase, Reserve, Runner, Session, Waiter};
 use std::alloc::{AllocError, Global};
 
 /// What a query is doing, without how it ended.
@@ -55,10 +55,14 @@ fn queue_seen(alloc: Global, waiting: &[Waiter]) -> Result<Vec<WaitingSeen>, All
     Ok(seen)
 }
 
-fn sizes_seen(alloc: Global, actual: &[u64]) -> Result<Vec<u64>, AllocError>
-    ensures { IfOk result (λ seen. seen.items ≡ actual.now) }
+fn sizes_seen(alloc: Global, reserves: &[Reserve]) -> Result<Vec<u64>, AllocError>
+    ensures { IfOk result (λ seen. seen.items ≡ map (λ e. e.size) reserves.now) }
 {
-    actual.to_vec(alloc)
+    let mut seen = Vec::with_capacity(alloc, reserves.len())?;
+    for e in reserves {
+        seen.push_reserved(e.size);
+    }
+    Ok(seen)
 }
 
 fn counters_seen(alloc: Global, counters: &[EndCounts]) -> Result<Vec<EndCounts>, AllocError>
@@ -74,6 +78,7 @@ fn moves_seen(alloc: Global, moves: &[MoveSeen]) -> Result<Vec<MoveSeen>, AllocE
 }
 
 impl Machine {
+    ghost use Rattle.rm_rules.specs.Holdings.{holdings_of};
     ghost use Rattle.rm_rules.specs.Accounting.{accounts};
     ghost use Rattle.rm_rules.specs.Healthy.{AreNumbered};
     ghost use Rattle.machine.specs.Looked.{session_seen, running_seen, snapshot_of};
@@ -95,19 +100,19 @@ impl Machine {
             seen.items ≡ map (session_seen self.now.definitions) self.now.sessions) }
     {
         let mut seen = Vec::with_capacity(alloc, self.sessions.len())?;
-        for x in &self.sessions {
+        for x in self.sessions.rows() {
             seen.push_reserved(self.session_seen(x));
         }
         Ok(seen)
     }
 
     fn runs_seen(&self, alloc: Global) -> Result<Vec<RunningSeen>, AllocError>
-        requires { AreNumbered self.now }
+        requires { AreNumbered self.now.last_query self.now.waiting self.now.running }
         ensures { IfOk result (λ seen.
-            seen.items ≡ map running_seen (zip self.now.running (accounts self.now))) }
+            seen.items ≡ map running_seen (zip self.now.running (accounts (holdings_of self.now)))) }
     {
         let mut seen = Vec::with_capacity(alloc, self.running.len())?;
-        for r in &self.running {
+        for r in self.running.rows() {
             seen.push_reserved(running_seen(r, self.accounts.account_of(r.query)));
         }
         Ok(seen)
@@ -115,18 +120,18 @@ impl Machine {
 
     /// The state as it stands.
     pub fn look(&self, alloc: Global) -> Result<Snapshot, AllocError>
-        requires { AreNumbered self.now }
+        requires { AreNumbered self.now.last_query self.now.waiting self.now.running }
         ensures { IfOk result (λ snapshot. snapshot ≡ snapshot_of self.now) }
     {
         Ok(Snapshot {
             definitions: self.definitions.copy(alloc)?,
             in_force: self.accounts.in_force(),
-            actual: Listed::of(sizes_seen(alloc, self.accounts.sizes())?),
+            actual: Listed::of(sizes_seen(alloc, self.accounts.reserves())?),
             sessions: Listed::of(self.sessions_seen(alloc)?),
             running: Listed::of(self.runs_seen(alloc)?),
             waiting: Listed::of(queue_seen(alloc, self.waiting.waiters())?),
-            counters: Listed::of(counters_seen(alloc, &self.counters)?),
-            moves: Listed::of(moves_seen(alloc, &self.moves)?),
+            counters: Listed::of(counters_seen(alloc, self.counters.rows())?),
+            moves: Listed::of(moves_seen(alloc, self.moves.rows())?),
         })
     }
 }

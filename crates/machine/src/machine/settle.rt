@@ -1,34 +1,47 @@
 //! What follows each change.
-ghost use Rattle.std.specs.Prelude.{◌≡◌, ◌<◌, ◌≤◌, ◌==◌, true, count_by, length, Some};
-ghost use Rattle.rm_base.specs.declared.limits.TheConstants.{SESSIONS_MOST};
+ghost use Rattle.std.specs.Prelude.{◌≡◌, ◌<◌, ◌≤◌, ◌==◌, ◌*◌, true, count_by, length, None};
+ghost use Rattle.rm_base.specs.declared.limits.TheConstants.{SESSIONS_MOST, MEMORY_MOST};
 
 use super::Machine;
 use crate::sessions::set_phase;
+use budgets::asked;
 use rm_rules::state::{Phase, Runner, Waiter};
 
 impl Machine {
-    ghost use Rattle.rm_rules.specs.Accounting.{free};
-    ghost use Rattle.rm_rules.specs.Admission.{ask_of, need, admitted, admission};
-    ghost use Rattle.rm_rules.specs.Settle.{settled};
+    ghost use Rattle.rm_rules.specs.Holdings.{holdings_of};
+    ghost use Rattle.rm_rules.specs.Accounting.{need, free};
+    ghost use Rattle.rm_rules.specs.Admission.{ask_of, first_entitled, admitted, admission};
+    ghost use Rattle.rm_rules.specs.Shuffle.{shuffled_state};
+    ghost use Rattle.rm_rules.specs.Settle.{settled, first_too_large};
     ghost use Rattle.rm_rules.specs.Sound.{IsSound, has_pool};
-    ghost use Rattle.rm_rules.specs.Healthy.{IsHeld, IsCovered, AreInPhase, AreNumbered};
-    ghost use Rattle.machine.specs.Settling.{IsSettling, MayLeave};
+    ghost use Rattle.rm_rules.specs.Healthy.{AreSized};
+    ghost use Rattle.machine.specs.Settling.{CanSettle, IsSettling, MayLeave};
+
+    /// The first entitled head in queue order.
+    fn first_entitled(&self) -> Option<Waiter>
+        requires { IsSettling self.now }
+        ensures { result ≡ first_entitled self.now }
+    {
+        let query = self.waiting.first_entitled(&self.definitions, self)?;
+        self.waiter_called(query)
+    }
 
     /// The waiting query runs from now on, with its ask as its grant.
     fn admit(&mut self, w: Waiter)
         requires sound { IsSound self.old.definitions }
+        requires sized { AreSized self.old.definitions self.old.actual self.old.counters }
         requires room { length self.old.running < SESSIONS_MOST }
         requires absent { count_by (λ r. r.query == w.query) self.old.running ≡ 0 }
         requires known { has_pool self.old.definitions w.pool ≡ true }
-        requires fits { need self.old w.pool (ask_of self.old w) ≤ free self.old }
-        requires leaves { MayLeave self.old w }
+        requires fits { need (holdings_of self.old) w.pool (ask_of self.old.definitions w) ≤ free (holdings_of self.old) }
+        requires leaves { MayLeave self.old.waiting w }
         ensures { self.new ≡ admitted self.old w }
     {
-        let grant = self.ask_of(&w);
+        let grant = asked(&self.definitions, w.pool, w.user, w.floor);
         set_phase(&mut self.sessions, w.session, Phase::Running);
         self.waiting.leave(w.query);
         self.accounts.take(w.query, w.pool, grant);
-        self.running.push_reserved(Runner {
+        self.running.add(Runner {
             query: w.query,
             session: w.session,
             user: w.user,
@@ -54,18 +67,19 @@ impl Machine {
         }
     }
 
+    /// Sizes follow the declared ones, and the memory in force the total.
+    fn shuffle(&mut self)
+        requires { CanSettle self.old }
+        ensures { self.new ≡ shuffled_state self.old }
+    {
+        self.accounts.shuffle(&self.definitions);
+    }
+
     /// What follows a change: too large queries end, sizes are shuffled, heads are admitted, queries that may not wait end,
     /// and heads are admitted again.
     pub fn settle(&mut self)
-        requires sound { IsSound self.old.definitions }
-        requires held { IsHeld self.old }
-        requires in_phase { AreInPhase self.old }
-        requires numbered { AreNumbered self.old }
-        ensures state { self.new ≡ settled self.old }
-        ensures sound { IsSound self.new.definitions }
-        ensures covered { IsCovered self.new }
-        ensures in_phase { AreInPhase self.new }
-        ensures numbered { AreNumbered self.new }
+        requires { CanSettle self.old }
+        ensures { self.new ≡ settled self.old }
     {
         self.end_too_large();
         self.shuffle();

@@ -3,34 +3,24 @@ ghost use Rattle.std.specs.Prelude.{◌≡◌, Some};
 
 use super::Machine;
 use crate::sessions::{is_ended, phase_of, runner_of, session_called, set_phase, waiter_of};
-use crate::told::Told;
-use rm_base::entry::Account;
 use rm_base::refusal::Refusal;
 use rm_base::reply::Reply;
-use rm_rules::state::{Phase, Runner};
+use rm_rules::answer::Answer;
+use rm_rules::state::Phase;
 
 impl Machine {
-    ghost use Rattle.rm_rules.specs.Change.{told_running, told_waiting, told_in_phase, told, reply_of, without_end, answered, runner_of, waiter_of};
+    ghost use Rattle.rm_rules.specs.Change.{runner_of};
+    ghost use Rattle.rm_rules.specs.Answers.{waiter_of, told_running, told_waiting, told, reply_of, without_end, answered};
     ghost use Rattle.rm_rules.specs.Healthy.{AreInPhase, AreNumbered};
-    ghost use Rattle.machine.specs.Answers.{answer_of, account_of};
-
-    /// The account of this session's running query.
-    fn account_of(&self, r: &Runner, session: u32) -> Account
-        requires numbered { AreNumbered self.now }
-        requires found { runner_of self.now.running session ≡ Some r.now }
-        ensures { result ≡ account_of self.now session r.now }
-    {
-        self.accounts.account_of(r.query)
-    }
 
     fn told_running(&self, session: u32) -> Reply
-        requires numbered { AreNumbered self.now }
+        requires { AreNumbered self.now.last_query self.now.waiting self.now.running }
         ensures { result ≡ told_running self.now session (runner_of self.now.running session) }
     {
-        let Some(r) = runner_of(&self.running, session) else {
+        let Some(r) = runner_of(self.running.rows(), session) else {
             return Reply::Refused(Refusal::NotLive);
         };
-        let account = self.account_of(&r, session);
+        let account = self.accounts.account_of(r.query);
         Reply::Admitted {
             query: r.query,
             pool: r.pool,
@@ -41,8 +31,8 @@ impl Machine {
     }
 
     fn told_waiting(&self, session: u32) -> Reply
-        requires in_phase { AreInPhase self.now }
-        requires numbered { AreNumbered self.now }
+        requires in_phase { AreInPhase self.now.sessions self.now.waiting self.now.running }
+        requires numbered { AreNumbered self.now.last_query self.now.waiting self.now.running }
         ensures { result ≡ told_waiting self.now session (waiter_of self.now.waiting session) }
     {
         let Some(w) = waiter_of(self.waiting.waiters(), session) else {
@@ -56,11 +46,11 @@ impl Machine {
 
     /// What a session is told of its query, as the state stands.
     fn told(&self, session: u32) -> Reply
-        requires numbered { AreNumbered self.now }
-        requires in_phase { AreInPhase self.now }
+        requires in_phase { AreInPhase self.now.sessions self.now.waiting self.now.running }
+        requires numbered { AreNumbered self.now.last_query self.now.waiting self.now.running }
         ensures { result ≡ told self.now session }
     {
-        let Some(x) = session_called(&self.sessions, session) else {
+        let Some(x) = session_called(self.sessions.rows(), session) else {
             return Reply::Refused(Refusal::NoSuchSession);
         };
         match x.phase {
@@ -72,15 +62,15 @@ impl Machine {
     }
 
     /// The reply to an event that is not refused.
-    pub fn reply_of(&self, told: Told) -> Reply
-        requires numbered { AreNumbered self.now }
-        requires in_phase { AreInPhase self.now }
-        ensures { result ≡ reply_of self.now (answer_of told) }
+    pub fn reply_of(&self, answer: Answer) -> Reply
+        requires in_phase { AreInPhase self.now.sessions self.now.waiting self.now.running }
+        requires numbered { AreNumbered self.now.last_query self.now.waiting self.now.running }
+        ensures { result ≡ reply_of self.now answer }
     {
-        match told {
-            Told::Says(reply) => reply,
-            Told::Tells(session) => self.told(session),
-            Told::Collects(session) => self.told(session),
+        match answer {
+            Answer::Says(reply) => reply,
+            Answer::Tells(session) => self.told(session),
+            Answer::Collects(session) => self.told(session),
         }
     }
 
@@ -88,19 +78,19 @@ impl Machine {
     fn collect_end(&mut self, session: u32)
         ensures { self.new ≡ record self.old { sessions = without_end session self.old.sessions } }
     {
-        if is_ended(phase_of(&self.sessions, session)) {
+        if is_ended(phase_of(self.sessions.rows(), session)) {
             set_phase(&mut self.sessions, session, Phase::Idle);
         }
     }
 
-    /// The answer has been given.
-    pub fn answered(&mut self, told: Told)
-        ensures { self.new ≡ answered self.old (answer_of told) }
+    /// The answer is given: what it collects is collected.
+    pub fn collect(&mut self, answer: Answer)
+        ensures { self.new ≡ answered self.old answer }
     {
-        match told {
-            Told::Says(_) => {}
-            Told::Tells(_) => {}
-            Told::Collects(session) => self.collect_end(session),
+        match answer {
+            Answer::Says(_) => {}
+            Answer::Tells(_) => {}
+            Answer::Collects(session) => self.collect_end(session),
         }
     }
 }

@@ -1,9 +1,13 @@
-use Rattle.std.proofs.Common.{sym}
-use Rattle.machine.proofs.Places.{with_phase-found, with_phase-absent}
+use Rattle.std.proofs.Common.{nat_eq}
+use Rattle.rm_rules.specs.declared.state.Session.{Session}
+use Rattle.machine.proofs.Places.{set-changed, set-absent}
 use Rattle.machine.proofs.sessions.set_phase.Goals as goal
 
 pub returns-in-Some : goal.returns-in-Some
-returns-in-Some c = sym (with_phase-found c.args.number c.args.now c.args.sessions.now c.index-sessions-place.result c.in-Some.place (sym c.in-Some.ensures.value))
+returns-in-Some c =
+    set-changed (λ (x : Session). nat_eq x.number c.args.number) (λ x. record x { phase = c.args.now }) c.args.sessions.now c.rows.result.now c.rows-in-Some.result.now c.set.new.self
+    c.index-rows-place.result c.in-Some.place c.rows.ensures.rows c.in-Some.ensures.value c.rows-in-Some.ensures.rows c.index-rows-place.is c.set.ensures
 
 pub returns-in_default : goal.returns-in_default
-returns-in_default c = sym (with_phase-absent c.args.number c.args.now c.args.sessions.now (sym c.in_default.ensures.value))
+returns-in_default c =
+    set-absent (λ (x : Session). nat_eq x.number c.args.number) (λ x. record x { phase = c.args.now }) c.args.sessions.now c.rows.result.now c.rows.ensures.rows c.in_default.ensures.value

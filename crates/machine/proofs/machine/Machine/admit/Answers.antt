@@ -1,27 +1,24 @@
-use Rattle.std.proofs.Common.{◌∙◌, ap, sym, arith, nat_eq}
-use Rattle.rm_rules.specs.declared.state.Runner.{Runner}
-use Rattle.rm_rules.specs.Admission.{need}
-use Rattle.accounts.proofs.Standing.{pools-stand, queries-stand, free-stands, need-stands}
-use Rattle.machine.proofs.Seen.{stands_inside}
-use Rattle.machine.proofs.Settling.{none-any}
+use Rattle.std.proofs.Common.{◌∙◌}
+use Rattle.machine.proofs.Inside.{sound_inside, name_inside, absent_inside, fits_inside, bytes-taken}
 use Rattle.machine.proofs.machine.Machine.admit.Goals as goal
 
+pub asked-grant-requires : goal.asked-grant-requires
+asked-grant-requires c = sound_inside c.self.inside c.args.self.now c.self.view_is c.requires.sound
+
 pub take-requires-clause-absent : goal.take-requires-clause-absent
-take-requires-clause-absent c =
-    let s = c.args.self.now in
-    let stands = stands_inside c.self.inside s c.self.view_is c.self.invariant in
-    sym (queries-stand s c.self.inside.accounts c.args.w.query stands) ∙ none-any (λ (r : Runner). nat_eq r.query c.args.w.query) s.running c.requires.absent
+take-requires-clause-absent c = absent_inside c.self.inside c.args.self.now c.args.w.query c.self.view_is c.self.invariant c.requires.absent
 
 pub take-requires-clause-known : goal.take-requires-clause-known
 take-requires-clause-known c =
-    let s = c.args.self.now in
-    let stands = stands_inside c.self.inside s c.self.view_is c.self.invariant in
-    sym (pools-stand s c.self.inside.accounts c.args.w.pool c.requires.sound stands) ∙ c.requires.known
+    name_inside c.self.inside c.args.self.now c.args.w.pool c.self.view_is c.self.invariant c.requires.sound c.requires.sized ∙ c.requires.known
 
 pub take-requires-clause-fits : goal.take-requires-clause-fits
 take-requires-clause-fits c =
-    let s = c.args.self.now in
-    let a = c.self.inside.accounts in
-    let stands = stands_inside c.self.inside s c.self.view_is c.self.invariant in
-    let needs = ap (need s c.args.w.pool) c.ask_of-grant.ensures.value in
-    omega (arith, c.requires.fits, needs, need-stands s a c.args.w.pool c.ask_of-grant.result stands, free-stands s a stands)
+    fits_inside c.self.inside c.args.self.now c.args.w c.asked-grant.result c.self.view_is c.self.invariant c.asked-grant.ensures.value c.requires.fits
+
+pub invariant_of-self : goal.invariant_of-self
+invariant_of-self c = record {
+  bytes = bytes-taken c.self.inside _ c.take.new.self c.add.new.self c.self.invariant c.take.ensures c.add.ensures;
+  journal = c.self.invariant.journal;
+  counted = c.self.invariant.counted;
+}

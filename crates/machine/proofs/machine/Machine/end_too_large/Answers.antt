@@ -1,32 +1,45 @@
-use Rattle.std.proofs.Common.{◌∙◌, ap, sym, subst, refl, length, arith}
-use Rattle.rm_rules.specs.State.{State}
-use Rattle.machine.proofs.Settling.{Ends, leave-large, waiting-ended, ends-one, ends-none}
+use Rattle.std.proofs.Common.{◌∙◌, ap, sym, refl, arith}
+use Rattle.rm_base.specs.declared.reply.End.{End}
+use Rattle.rm_rules.specs.Deadlines.{ended_as}
+use Rattle.rm_rules.proofs.Settling.{too_large-among}
+use Rattle.machine.proofs.Settling.{may-leave, fewer-large, ends-large, none-large}
 use Rattle.machine.proofs.machine.Machine.end_too_large.Goals as goal
 
-pub end_as-requires : goal.end_as-requires
-end_as-requires c = record {
-  counts = c.loop-w.invariant.held.counts;
-  leaves = leave-large c.loop-w.self c.in-Some.w c.loop-w.invariant.in_phase c.loop-w.invariant.numbered c.in-Some.ensures.found;
-}
-
 pub loop-w-init : goal.loop-w-init
-loop-w-init c = record { same = refl; sound = c.requires.sound; held = c.requires.held; in_phase = c.requires.in_phase; numbered = c.requires.numbered }
+loop-w-init c = record { leads = refl; settles = c.requires }
+
+pub first_too_large-requires : goal.first_too_large-requires
+first_too_large-requires c = c.loop-w.invariant.settles.kept.sound
+
+pub too_large_end-end-requires : goal.too_large_end-end-requires
+too_large_end-end-requires c = c.loop-w.invariant.settles.kept.sound
+
+pub end_as-requires : goal.end_as-requires
+end_as-requires c =
+    let s = c.loop-w.self in
+    let k = c.loop-w.invariant.settles.kept in
+    record {
+      counts = k.sized.counts;
+      leaves = may-leave s c.in-Some.w k.in_phase k.numbered (too_large-among s c.in-Some.w (sym c.first_too_large.ensures ∙ c.in-Some.is));
+    }
 
 pub loop-w-preserved : goal.loop-w-preserved
 loop-w-preserved c =
-    subst (Ends c.args.self.now) (sym c.end_as.ensures)
-    (ends-one c.args.self.now c.loop-w.self c.in-Some.w c.in-Some.end c.in-Some.ensures.found c.in-Some.ensures.end c.loop-w.invariant)
+    let s = c.loop-w.self in
+    let ended = c.end_as.ensures ∙ ap (λ (e : End). ended_as e s c.in-Some.w) c.too_large_end-end.ensures in
+    ends-large c.args.self.now s c.in-Some.w c.end_as.new.self ended (sym c.first_too_large.ensures ∙ c.in-Some.is) c.loop-w.invariant
 
 pub loop-w-smaller : goal.loop-w-smaller
 loop-w-smaller c =
-    omega (arith, waiting-ended c.loop-w.self c.in-Some.w c.in-Some.end c.in-Some.ensures.found, ap (λ (s : State). length s.waiting) c.end_as.ensures)
+    let s = c.loop-w.self in
+    let ended = c.end_as.ensures ∙ ap (λ (e : End). ended_as e s c.in-Some.w) c.too_large_end-end.ensures in
+    omega (arith, fewer-large s c.in-Some.w c.end_as.new.self ended (sym c.first_too_large.ensures ∙ c.in-Some.is))
 
 pub returns : goal.returns
-returns c = record {
-  state = sym (ends-none c.loop-w.self c.in_default.ensures.none) ∙ c.loop-w.invariant.same;
-  sound = c.loop-w.invariant.sound;
-  held = c.loop-w.invariant.held;
-  in_phase = c.loop-w.invariant.in_phase;
-  numbered = c.loop-w.invariant.numbered;
-  small = c.in_default.ensures.none;
-}
+returns c =
+    let nothing = sym c.first_too_large.ensures ∙ c.in_default.is in
+    record {
+      state = sym (none-large c.loop-w.self nothing) ∙ c.loop-w.invariant.leads;
+      settles = c.loop-w.invariant.settles;
+      small = nothing;
+    }

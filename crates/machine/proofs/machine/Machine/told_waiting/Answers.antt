@@ -4,7 +4,7 @@ use Rattle.rm_base.specs.declared.reply.Reply.{Reply}
 use Rattle.rm_base.specs.declared.reply.Reply.TheVariants as reply
 use Rattle.rm_rules.specs.declared.state.Waiter.{Waiter}
 use Rattle.rm_rules.specs.State.{State}
-use Rattle.rm_rules.specs.Change.{waiter_of, told_waiting}
+use Rattle.rm_rules.specs.Answers.{waiter_of, told_waiting}
 use Rattle.pool_queue.specs.Queue.{place_of_query}
 use Rattle.machine.proofs.Settling.{place-waiting}
 use Rattle.machine.proofs.machine.Machine.told_waiting.Goals as goal

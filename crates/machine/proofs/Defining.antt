@@ -1,0 +1,118 @@
+-- The pools after an accepted statement: as many by the same names, or one more behind them.
+use Rattle.std.proofs.Common.{◌≡◌, ◌<◌, ◌≤◌, ◌+◌, ℕ, Bool, true, false, List, [], ◌∷◌, ◌++◌, length, Some, Ok, get_or, map, refl, sym, ap, ◌∙◌, subst, arith}
+use Rattle.std.proofs.lemmas.List.{length_push, map_push}
+use Rattle.rm_base.specs.declared.definitions.Definitions.{Definitions}
+use Rattle.rm_base.specs.declared.entry.EndCounts.{EndCounts}
+use Rattle.rm_base.specs.declared.rows.PoolRow.{PoolRow}
+use Rattle.rm_base.specs.declared.statement.Statement.{Statement}
+use Rattle.rm_rules.specs.declared.state.Reserve.{Reserve}
+use Rattle.rm_rules.specs.declared.state.Runner.{Runner}
+use Rattle.rm_rules.specs.Definitions.{user_pools}
+use Rattle.rm_rules.specs.State.{State, none_ended}
+use Rattle.rm_rules.specs.Holdings.{Holdings, holdings_of}
+use Rattle.rm_rules.specs.Acceptance.{with_pool, accepted, is_judged}
+use Rattle.rm_rules.specs.Change.{with_place, defined}
+use Rattle.rm_rules.specs.Sound.{IsSound, has_pool}
+use Rattle.rm_rules.specs.Healthy.{AreSized}
+use Rattle.rm_rules.proofs.AcceptancePools.{length_with-there}
+use Rattle.rm_rules.proofs.Defining.{accepted-row, names-there, last-absent, user_named, user_push, place-same, place-more}
+use Rattle.accounts.specs.Accounts.{names_in, with_pool as with_reserve}
+use Rattle.accounts.proofs.Standing.{kept-stand, added-stand}
+use Rattle.machine.specs.declared.machine.Machine.TheInside.{Inside}
+use Rattle.machine.specs.Inside.{seen, IsTied}
+use Rattle.machine.proofs.Inside.{bytes_under}
+
+-- one pool came behind the others, or none came
+pub record IsAdded (d new : Definitions) (row : PoolRow) : Type 0 where
+  pub absent : has_pool d row.name ≡ false
+  pub names : names_in new ≡ names_in d ++ row.name ∷ []
+  pub count : length new.pools ≡ length d.pools + 1
+
+pub record IsAltered (d new : Definitions) : Type 0 where
+  pub names : names_in new ≡ names_in d
+  pub count : length new.pools ≡ length d.pools
+
+-- the last item of a list with one more
+item-last : {A : Type 0} (xs : List A) (y z : A) → get_or (xs ++ y ∷ []) (length xs) z ≡ y
+item-last [] y z = refl
+item-last (x ∷ xs) y z = item-last xs y z
+
+cases : (d : Definitions) (row z : PoolRow) (b : Bool) → has_pool d row.name ≡ b → IsSound d
+    → (length d.pools < length (with_pool d row).pools → IsAdded d (with_pool d row) (get_or (with_pool d row).pools (length d.pools) z))
+    × (length (with_pool d row).pools ≤ length d.pools → IsAltered d (with_pool d row))
+cases d row z true there sound =
+    let count = length_with-there row d.pools there in
+    (λ more. absurd (omega (arith, more, count)),
+    λ few. record { names = user_named (with_pool d row).pools d.pools (names-there row d.pools there); count = count })
+cases d row z false absent sound =
+    let last = last-absent row d.pools absent in
+    let count : length (with_pool d row).pools ≡ length d.pools + 1 = ap (λ (l : List PoolRow). length l) last ∙ length_push d.pools row in
+    let added : IsAdded d (with_pool d row) row = record {
+      absent = absent;
+      names =
+          ap (λ (l : List PoolRow). map (λ (r : PoolRow). r.name) (user_pools l)) last
+          ∙ ap (λ (l : List PoolRow). map (λ (r : PoolRow). r.name) l) (user_push d.pools row sound.general_first)
+          ∙ map_push (λ (r : PoolRow). r.name) (user_pools d.pools) row;
+      count = count;
+    } in
+    let item : get_or (with_pool d row).pools (length d.pools) z ≡ row = ap (λ (l : List PoolRow). get_or l (length d.pools) z) last ∙ item-last d.pools row z in
+    (λ more. subst (λ (r : PoolRow). IsAdded d (with_pool d row) r) (sym item) added,
+    λ few. absurd (omega (arith, few, count)))
+
+-- which of both it is, the code sees by the number of pools
+pub added : (d new : Definitions) (statement : Statement) (z : PoolRow) (count : ℕ) (rows : List PoolRow) → IsSound d → is_judged statement ≡ true → accepted d statement ≡ Ok new
+    → count ≡ length d.pools → rows ≡ new.pools → count < length rows → IsAdded d new (get_or rows count z)
+added d new statement z count rows sound judged accepts old now more =
+    let r = accepted-row d statement new judged accepts in
+    let h =
+    subst (λ (n : Definitions). length d.pools < length n.pools → IsAdded d n (get_or n.pools (length d.pools) z)) r.1
+    ((cases d r.0 z (has_pool d r.0.name) refl sound).0) in
+    subst (λ (k : ℕ). IsAdded d new (get_or rows k z)) (sym old)
+    (subst (λ (l : List PoolRow). IsAdded d new (get_or l (length d.pools) z)) (sym now)
+    (h (omega (arith, more, old, ap (λ (l : List PoolRow). length l) now))))
+
+pub altered : (d new : Definitions) (statement : Statement) (count : ℕ) (rows : List PoolRow) → IsSound d → is_judged statement ≡ true → accepted d statement ≡ Ok new
+    → count ≡ length d.pools → rows ≡ new.pools → length rows ≤ count → IsAltered d new
+altered d new statement count rows sound judged accepts old now few =
+    let r = accepted-row d statement new judged accepts in
+    subst (λ (n : Definitions). length n.pools ≤ length d.pools → IsAltered d n) r.1 ((cases d r.0 r.0 (has_pool d r.0.name) refl sound).1)
+    (omega (arith, few, old, ap (λ (l : List PoolRow). length l) now))
+
+-- the bytes under the new definitions
+pub bytes-added : (m : Inside) (new : Definitions) (row : PoolRow) (a : Holdings) → IsTied m → AreSized m.definitions (seen m).actual m.counters → IsAdded m.definitions new row
+    → a ≡ with_reserve m.accounts row.name → bytes_under new a m.running ≡ a
+bytes-added m new row a h sized adds is =
+    let e : Reserve = record { pool = row.name; size = 0 } in
+    let sizes = map_push (λ (x : Reserve). x.size) m.accounts.reserves e in
+    subst (λ (b : Holdings). bytes_under new b m.running ≡ b) (sym is)
+    (ap (λ (ns : List ℕ). let s : State = record (seen m) { definitions = new; actual = ns } in holdings_of s) sizes
+    ∙ added-stand (seen m) new row.name sized adds.names
+    ∙ ap (λ (b : Holdings). with_reserve b row.name) h.bytes)
+
+pub bytes-altered : (m : Inside) (new : Definitions) → IsTied m → AreSized m.definitions (seen m).actual m.counters → IsAltered m.definitions new → bytes_under new m.accounts m.running ≡ m.accounts
+bytes-altered m new h sized alters = kept-stand (seen m) new sized alters.names ∙ h.bytes
+
+-- the state with the new definitions
+seen-added : (m : Inside) (new : Definitions) (row : PoolRow) (b : Holdings) (counters : List EndCounts) → IsAdded m.definitions new row → b ≡ with_reserve m.accounts row.name
+    → counters ≡ m.counters ++ none_ended ∷ [] → seen (record m { definitions = new; accounts = b; counters = counters }) ≡ (defined (seen m) new).state
+seen-added m new row b counters h is more =
+    let sizes = map_push (λ (x : Reserve). x.size) m.accounts.reserves (record { pool = row.name; size = 0 }) ∙ sym (place-more m.definitions new 0 (seen m).actual h.count) in
+    ap (λ (x : Holdings). let t : State = record (seen m) { definitions = new; in_force = x.in_force; actual = map (λ (e : Reserve). e.size) x.reserves; counters = counters } in t) is
+    ∙ ap (λ (ns : List ℕ). let t : State = record (seen m) { definitions = new; actual = ns; counters = counters } in t) sizes
+    ∙ ap (λ (cs : List EndCounts). let t : State = record (seen m) { definitions = new; actual = with_place m.definitions new 0 (seen m).actual; counters = cs } in t)
+    (more ∙ sym (place-more m.definitions new none_ended m.counters h.count))
+
+pub state-added : (m : Inside) (s : State) (new : Definitions) (row : PoolRow) (b : Holdings) (counters : List EndCounts) → seen m ≡ s → IsAdded m.definitions new row
+    → b ≡ with_reserve m.accounts row.name → counters ≡ m.counters ++ none_ended ∷ []
+    → seen (record m { definitions = new; accounts = b; counters = counters }) ≡ (defined s new).state
+state-added m s new row b counters same h is more =
+    seen-added m new row b counters h is more ∙ ap (λ (t : State). (defined t new).state) same
+
+seen-altered : (m : Inside) (new : Definitions) → IsAltered m.definitions new → seen (record m { definitions = new }) ≡ (defined (seen m) new).state
+seen-altered m new h =
+    ap (λ (ns : List ℕ). let t : State = record (seen m) { definitions = new; actual = ns } in t) (sym (place-same m.definitions new 0 (seen m).actual h.count))
+    ∙ ap (λ (cs : List EndCounts). let t : State = record (seen m) { definitions = new; actual = with_place m.definitions new 0 (seen m).actual; counters = cs } in t)
+    (sym (place-same m.definitions new none_ended m.counters h.count))
+
+pub state-altered : (m : Inside) (s : State) (new : Definitions) → seen m ≡ s → IsAltered m.definitions new → seen (record m { definitions = new }) ≡ (defined s new).state
+state-altered m s new same h = seen-altered m new h ∙ ap (λ (t : State). (defined t new).state) same

@@ -1,9 +1,0 @@
-use Rattle.std.proofs.Common.{◌∙◌, sym}
-use Rattle.accounts.proofs.Standing.{free-stands}
-use Rattle.machine.proofs.Seen.{stands_inside}
-use Rattle.machine.proofs.machine.Machine.free.Goals as goal
-
-pub returns : goal.returns
-returns c =
-    let stands = stands_inside c.self.inside c.args.self.now c.self.view_is c.self.invariant in
-    c.free.ensures.value ∙ sym (free-stands c.args.self.now c.self.inside.accounts stands)

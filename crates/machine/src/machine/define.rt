@@ -1,0 +1,55 @@
+//! Define: a statement on the definitions.
+ghost use Rattle.std.specs.Prelude.{◌≡◌, Ok, Err, length, IsTrue, IsOk, IfOk, IfErr, OnErr};
+
+use super::Machine;
+use crate::counters::none_ended;
+use crate::done::Done;
+use pool_table::{accept, apply};
+use rm_base::refusal::Refusal;
+use rm_base::reply::Reply;
+use rm_base::statement::Statement;
+use rm_rules::answer::Answer;
+
+impl Machine {
+    ghost use Rattle.rm_base.specs.declared.event.Event.TheVariants.{Define};
+    ghost use Rattle.rm_base.specs.Ranges.{is_statement_in_range};
+    ghost use Rattle.rm_rules.specs.Acceptance.{accepted, is_judged};
+    ghost use Rattle.rm_rules.specs.Change.{defined, defining};
+    ghost use Rattle.rm_rules.specs.Sound.{IsSound};
+    ghost use Rattle.rm_rules.specs.Healthy.{AreSized, IsHealthy};
+    ghost use Rattle.rm_rules.specs.Replay.{IsFormed};
+    ghost use Rattle.machine.specs.Done.{change_to};
+
+    /// Makes the change of an accepted statement. A new pool has no bytes yet, and no query of it has ended.
+    fn apply_statement(&mut self, statement: &Statement)
+        requires sound { IsSound self.old.definitions }
+        requires in_range { IsTrue (is_statement_in_range statement.now) }
+        requires judged { IsTrue (is_judged statement.now) }
+        requires accepted { IsOk (accepted self.old.definitions statement.now) }
+        requires sized { AreSized self.old.definitions self.old.actual self.old.counters }
+        ensures definitions { accepted self.old.definitions statement.now ≡ Ok self.new.definitions }
+        ensures state { self.new ≡ (defined self.old self.new.definitions).state }
+    {
+        let pools = self.definitions.pools.len();
+        apply(&mut self.definitions, statement);
+        let rows = self.definitions.pools.rows();
+        if pools < rows.len() {
+            let name = rows[pools].name;
+            self.accounts.add_pool(name);
+            self.counters.add(none_ended());
+        }
+    }
+
+    /// The statement is accepted and applied, or refused.
+    pub fn define(&mut self, statement: &Statement) -> Result<Done, Refusal>
+        requires healthy { IsHealthy self.old }
+        requires formed { IsFormed (Define statement.now) }
+        ensures ok { IfOk result (λ done. defining self.old statement.now ≡ Ok (change_to self.new done)) }
+        ensures err { IfErr result (λ refusal. defining self.old statement.now ≡ Err refusal) }
+        ensures kept { OnErr result (self.new ≡ self.old) }
+    {
+        accept(&self.definitions, statement)?;
+        self.apply_statement(statement);
+        Ok(Done::changing(Answer::Says(Reply::Defined)))
+    }
+}
