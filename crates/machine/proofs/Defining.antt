@@ -1,5 +1,6 @@
 -- The pools after an accepted statement: as many by the same names, or one more behind them.
 use Rattle.std.proofs.Common.{◌≡◌, ◌<◌, ◌≤◌, ◌+◌, ℕ, Bool, true, false, List, [], ◌∷◌, ◌++◌, length, Some, Ok, get_or, map, refl, sym, ap, ◌∙◌, subst, arith}
+use Rattle.std.proofs.lemmas.Bool.{false≢true}
 use Rattle.std.proofs.lemmas.List.{length_push, map_push}
 use Rattle.rm_base.specs.declared.definitions.Definitions.{Definitions}
 use Rattle.rm_base.specs.declared.entry.EndCounts.{EndCounts}
@@ -12,7 +13,7 @@ use Rattle.rm_rules.specs.State.{State, none_ended}
 use Rattle.rm_rules.specs.Holdings.{Holdings, holdings_of}
 use Rattle.rm_rules.specs.Acceptance.{with_pool, accepted, is_judged}
 use Rattle.rm_rules.specs.Change.{with_place, defined}
-use Rattle.rm_rules.specs.Sound.{IsSound, has_pool}
+use Rattle.rm_rules.specs.Sound.{IsSound, has_pool, begins_with_general}
 use Rattle.rm_rules.specs.Healthy.{AreSized}
 use Rattle.rm_rules.proofs.AcceptancePools.{length_with-there}
 use Rattle.rm_rules.proofs.Defining.{accepted-row, names-there, last-absent, user_named, user_push, place-same, place-more}
@@ -41,9 +42,10 @@ cases : (d : Definitions) (row z : PoolRow) (b : Bool) → has_pool d row.name �
     → (length d.pools < length (with_pool d row).pools → IsAdded d (with_pool d row) (get_or (with_pool d row).pools (length d.pools) z))
     × (length (with_pool d row).pools ≤ length d.pools → IsAltered d (with_pool d row))
 cases d row z true there sound =
-    let count = length_with-there row d.pools there in
-    (λ more. absurd (omega (arith, more, count)),
-    λ few. record { names = user_named (with_pool d row).pools d.pools (names-there row d.pools there); count = count })
+    let count = length_with-there row d.pools there in (
+      λ more. absurd (omega (arith, more, count)),
+      λ few. record { names = user_named (with_pool d row).pools d.pools (names-there row d.pools there); count = count },
+    )
 cases d row z false absent sound =
     let last = last-absent row d.pools absent in
     let count : length (with_pool d row).pools ≡ length d.pools + 1 = ap (λ (l : List PoolRow). length l) last ∙ length_push d.pools row in
@@ -55,9 +57,10 @@ cases d row z false absent sound =
           ∙ map_push (λ (r : PoolRow). r.name) (user_pools d.pools) row;
       count = count;
     } in
-    let item : get_or (with_pool d row).pools (length d.pools) z ≡ row = ap (λ (l : List PoolRow). get_or l (length d.pools) z) last ∙ item-last d.pools row z in
-    (λ more. subst (λ (r : PoolRow). IsAdded d (with_pool d row) r) (sym item) added,
-    λ few. absurd (omega (arith, few, count)))
+    let item : get_or (with_pool d row).pools (length d.pools) z ≡ row = ap (λ (l : List PoolRow). get_or l (length d.pools) z) last ∙ item-last d.pools row z in (
+      λ more. subst (λ (r : PoolRow). IsAdded d (with_pool d row) r) (sym item) added,
+      λ few. absurd (omega (arith, few, count)),
+    )
 
 -- which of both it is, the code sees by the number of pools
 pub added : (d new : Definitions) (statement : Statement) (z : PoolRow) (count : ℕ) (rows : List PoolRow) → IsSound d → is_judged statement ≡ true → accepted d statement ≡ Ok new
@@ -77,6 +80,18 @@ altered d new statement count rows sound judged accepts old now few =
     let r = accepted-row d statement new judged accepts in
     subst (λ (n : Definitions). length n.pools ≤ length d.pools → IsAltered d n) r.1 ((cases d r.0 r.0 (has_pool d r.0.name) refl sound).1)
     (omega (arith, few, old, ap (λ (l : List PoolRow). length l) now))
+
+-- there are as many reserves as pools but GENERAL
+sizes-count : (es : List Reserve) → length (map (λ (e : Reserve). e.size) es) ≡ length es
+sizes-count [] = refl
+sizes-count (e ∷ es) = omega (arith, sizes-count es)
+
+user-count : (pools : List PoolRow) → begins_with_general pools ≡ true → length (user_pools pools) + 1 ≡ length pools
+user-count [] begins = absurd (false≢true begins)
+user-count (r ∷ rs) begins = omega arith
+
+pub reserves-count : (m : Inside) → IsSound m.definitions → AreSized m.definitions (seen m).actual m.counters → length m.accounts.reserves + 1 ≡ length m.definitions.pools
+reserves-count m sound sized = omega (arith, sized.sizes, sizes-count m.accounts.reserves, user-count m.definitions.pools sound.general_first)
 
 -- the bytes under the new definitions
 pub bytes-added : (m : Inside) (new : Definitions) (row : PoolRow) (a : Holdings) → IsTied m → AreSized m.definitions (seen m).actual m.counters → IsAdded m.definitions new row

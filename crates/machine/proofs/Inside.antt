@@ -30,7 +30,7 @@ use Rattle.machine.proofs.Submitting.{none-any}
 pub sound_inside : (m : Inside) (s : State) → seen m ≡ s → IsSound s.definitions → IsSound m.definitions
 sound_inside m s same sound = let P : State → Type 0 = λ x. IsSound x.definitions in subst P (sym same) sound
 
-sized_inside : (m : Inside) (s : State) → seen m ≡ s → AreSized s.definitions s.actual s.counters → AreSized m.definitions (seen m).actual m.counters
+pub sized_inside : (m : Inside) (s : State) → seen m ≡ s → AreSized s.definitions s.actual s.counters → AreSized m.definitions (seen m).actual m.counters
 sized_inside m s same sized = subst (λ (t : State). AreSized t.definitions t.actual t.counters) (sym same) sized
 
 -- its accounts are the bytes of the state

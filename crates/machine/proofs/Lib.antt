@@ -3,6 +3,7 @@ pub mod Ends
 pub mod Running
 pub mod Submitting
 pub mod Inside
+pub mod Starting
 pub mod Defining
 pub mod Looping
 pub mod Settling

@@ -1,5 +1,5 @@
 -- What is known where a session may submit.
-use Rattle.std.proofs.Common.{◌≡◌, ◌<◌, ◌≤◌, ℕ, ◌+◌, Bool, true, false, cond, eqb, Option, Some, None, Result, Ok, Err, List, [], ◌∷◌, length, refl, sym, ap, ◌∙◌, subst, arith, count_by}
+use Rattle.std.proofs.Common.{◌≡◌, ◌<◌, ◌≤◌, ℕ, ◌+◌, ◌||◌, Bool, true, false, cond, eqb, Option, Some, None, Result, Ok, Err, List, [], ◌∷◌, length, refl, sym, ap, ◌∙◌, subst, arith, count_by}
 use Rattle.std.specs.Option.{is_some}
 use Rattle.std.specs.List.{list_any}
 use Rattle.std.proofs.lemmas.Bool.{eqb-true}
@@ -49,7 +49,7 @@ room_waiting s x h opened found idle =
     )
 
 -- where none is counted, none is there
-none-turn : {A : Type 0} (test : A → Bool) (x : A) (xs : List A) (b : Bool) → test x ≡ b → count_by test (x ∷ xs) ≡ 0 → (count_by test xs ≡ 0 → list_any test xs ≡ false) → cond b true (list_any test xs) ≡ false
+none-turn : {A : Type 0} (test : A → Bool) (x : A) (xs : List A) (b : Bool) → test x ≡ b → count_by test (x ∷ xs) ≡ 0 → (count_by test xs ≡ 0 → list_any test xs ≡ false) → (b || list_any test xs) ≡ false
 none-turn test x xs true e none rest = absurd (omega (arith, none, sum_by-cons (λ z. cond (test z) 1 0) x xs, ap {B = ℕ} (λ (c : Bool). cond c 1 0) e))
 none-turn test x xs false e none rest = rest (omega (arith, none, sum_by-cons (λ z. cond (test z) 1 0) x xs))
 

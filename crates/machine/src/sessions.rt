@@ -85,10 +85,13 @@ pub fn set_phase(sessions: &mut Sessions, number: u32, now: Phase)
 {
     if let Some(place) = place_of_session(sessions.rows(), number) {
         let session = sessions.rows()[place];
-        sessions.set(place, Session {
-            phase: now,
-            ..session
-        });
+        sessions.set(
+            place,
+            Session {
+                phase: now,
+                ..session
+            },
+        );
     }
 }
 
@@ -108,10 +111,13 @@ pub fn set_choice(sessions: &mut Sessions, number: u32, pool: Name)
 {
     if let Some(place) = place_of_session(sessions.rows(), number) {
         let session = sessions.rows()[place];
-        sessions.set(place, Session {
-            pool: Some(pool),
-            ..session
-        });
+        sessions.set(
+            place,
+            Session {
+                pool: Some(pool),
+                ..session
+            },
+        );
     }
 }
 

@@ -1,6 +1,6 @@
 //! Submit: a new query.
-ghost use Rattle.std.specs.Prelude.{◌≡◌, ◌<◌, ◌+◌, ◌^◌, true, false, length, Some, Ok, Err, IfOk, IfErr, IfNone, OnErr};
-ghost use Rattle.rm_base.specs.declared.limits.TheConstants.{SESSIONS_MOST};
+ghost use Rattle.std.specs.Prelude.{◌≡◌, ◌<◌, ◌≤◌, ◌+◌, true, false, length, Some, Ok, Err, IfOk, IfErr, IfNone, OnErr};
+ghost use Rattle.rm_base.specs.declared.limits.TheConstants.{SESSIONS_MOST, ENTRIES_BEYOND};
 
 use super::Machine;
 use crate::done::Done;
@@ -59,7 +59,7 @@ impl Machine {
     fn enqueue(&mut self, x: &Session, pool: Name, floor: u64)
         requires room { length self.old.waiting < SESSIONS_MOST }
         requires absent { has_query self.old.waiting (self.old.last_query + 1) ≡ false }
-        requires fits { self.old.last_query + 1 < 2 ^ 64 }
+        requires numbers { self.old.last_query ≤ self.old.room + ENTRIES_BEYOND }
         ensures { self.new ≡ (submitted self.old x.now pool floor).state }
     {
         let query = self.last_query + 1;

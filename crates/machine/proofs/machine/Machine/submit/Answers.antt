@@ -1,4 +1,5 @@
 use Rattle.std.proofs.Common.{arith}
+use Rattle.rm_rules.proofs.Answering.{numbers-fit}
 use Rattle.machine.proofs.Submitting.{room_waiting, next-absent, submit-refused, submit-accepted}
 use Rattle.machine.proofs.machine.Machine.submit.Goals as goal
 
@@ -12,6 +13,9 @@ enqueue-requires-clause-room c =
 
 pub enqueue-requires-clause-absent : goal.enqueue-requires-clause-absent
 enqueue-requires-clause-absent c = next-absent c.args.self.now c.requires.healthy.numbered
+
+pub enqueue-requires-clause-numbers : goal.enqueue-requires-clause-numbers
+enqueue-requires-clause-numbers c = (numbers-fit c.args.self.now c.requires.healthy).1
 
 pub returns-clause-ok : goal.returns-clause-ok
 returns-clause-ok c =
