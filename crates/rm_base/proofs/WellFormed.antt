@@ -1,5 +1,5 @@
 -- a statement that is well formed has its values in their ranges
-use Rattle.std.proofs.Common.{◌≡◌, ℕ, suc, ℤ, pos, negsuc, nat_abs, nat_le, Bool, true, false, ◌&&◌, Option, Some, None, IfSome, refl, arith}
+use Rattle.std.proofs.Common.{◌≡◌, ℕ, suc, ℤ, pos, negsuc, nat_abs, nat_le, Bool, true, Option, Some, None, IfSome, refl, arith}
 use Rattle.std.proofs.lemmas.Bool.{and_from, le-leb}
 use Rattle.rm_base.specs.declared.limits.TheConstants.{CONCURRENCY_MOST, MEMORY_MOST, PERCENT_MOST, PRIORITY_MOST, SPAN_MOST, THRESHOLD_SECONDS_MOST}
 use Rattle.rm_base.specs.declared.statement.PoolChange.{PoolChange}

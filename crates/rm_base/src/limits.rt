@@ -36,8 +36,8 @@ pub const ENTRIES_A_QUERY: usize = 40;
 /// How many journal entries an open session keeps free until it is closed.
 pub const ENTRIES_A_SESSION: usize = 2;
 
-/// How many journal entries a desk has room for beyond the journal's room and its statements: what the queries that live
-/// at once may need above the entries that they keep free.
+/// How many journal entries there may be beyond the journal's room and the entries of statements: a live query makes at
+/// most 51 after its Submit, of which it keeps 40 free.
 pub const ENTRIES_BEYOND: usize = 1_408;
 
 /// The journal room of a script, in entries.
@@ -74,7 +74,7 @@ pub const USABLE_PERCENT: u64 = 95;
 /// The greatest percentage: the whole.
 pub const PERCENT_MOST: u64 = 100;
 
-/// Which part of the total is left to GENERAL at least: one of so many.
+/// One part in so many of the total is left to GENERAL at least: a quarter.
 pub const GENERAL_PART: u64 = 4;
 
 /// The greatest PRIORITY. The least is its negative.
