@@ -162,7 +162,7 @@ settled-is-settled s sound sized there held =
     let v = without_nowait (admission (shuffled_state (without_too_large s))) in
     let h = quiet-settled s (record { sound = sound; sized = sized; there = there; held = held }) in
     let r = h.resting in
-    let none : first_entitled (settled s) ≡ None = repeated-done first_entitled admitted takes-entitled (length v.waiting) v (omega arith) in
+    let none : first_entitled (settled s) ≡ None = repeated-done first_entitled admitted takes-entitled _ v (omega arith) in
     record {
       none_too_large = r.none_too_large;
       sizes_rest = rests-shuffled (settled s) r.sized r.covered r.rests;
@@ -174,7 +174,7 @@ settled-is-settled s sound sized there held =
 -- a settled state settles to itself
 pub settled-again : (s : State) → IsSettled s → settled s ≡ s
 settled-again s h =
-    let admits : admission s ≡ s = repeated-none first_entitled admitted (length s.waiting) s h.none_entitled in
+    let admits : admission s ≡ s = repeated-none first_entitled admitted _ s h.none_entitled in
     ap (λ t. admission (without_nowait (admission (shuffled_state t)))) (repeated-none first_too_large ended_too_large (length s.waiting) s h.none_too_large)
     ∙ ap (λ t. admission (without_nowait (admission t))) h.sizes_rest
     ∙ ap (λ t. admission (without_nowait t)) admits
