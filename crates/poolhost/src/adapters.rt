@@ -1,10 +1,25 @@
 //! The streams of the system, as the host's source and sink. They count each failure but want of memory, and tell nothing
 //! of what a stream holds.
 
+ghost use Rattle.std.specs.Prelude.{◌≡◌, ◌↔◌, Some, IsNone};
+ghost use Rattle.std.specs.IoError.{error_kind};
+
 use rm_outside::outside::Outside;
 use rm_outside::sink::Sink;
 use rm_outside::source::Source;
-use std::io::{ErrorKind, Read, Write};
+use std::io::{Error, ErrorKind, Read, Write};
+
+/// What an error of a stream means for the host. It means nothing where the call was interrupted, and is to be tried again.
+fn outside_of(error: &Error) -> Option<Outside>
+    ensures interrupted { IsNone result ↔ (error_kind error.now ≡ ErrorKind.Interrupted) }
+    ensures memory { (result ≡ Some Outside.Memory) ↔ (error_kind error.now ≡ ErrorKind.OutOfMemory) }
+{
+    match error.kind() {
+        ErrorKind::Interrupted => None,
+        ErrorKind::OutOfMemory => Some(Outside::Memory),
+        _ => Some(Outside::Failed),
+    }
+}
 
 /// A reader as a source. A read that was interrupted is tried again.
 #[derive(Drop)]
@@ -37,10 +52,10 @@ impl<R: Read + Drop> Source for ReaderSource<R> {
         for _ in 0..u64::MAX {
             match self.reader.read(into) {
                 Ok(count) => return Ok(count),
-                Err(error) => match error.kind() {
-                    ErrorKind::Interrupted => {}
-                    ErrorKind::OutOfMemory => return Err(Outside::Memory),
-                    _ => break,
+                Err(error) => match outside_of(&error) {
+                    None => {}
+                    Some(Outside::Memory) => return Err(Outside::Memory),
+                    Some(Outside::Failed) => break,
                 },
             }
         }
@@ -81,10 +96,10 @@ impl<W: Write + Drop> Sink for WriterSink<W> {
             match self.writer.write(bytes) {
                 Ok(0) => break,
                 Ok(count) => return Ok(count),
-                Err(error) => match error.kind() {
-                    ErrorKind::Interrupted => {}
-                    ErrorKind::OutOfMemory => return Err(Outside::Memory),
-                    _ => break,
+                Err(error) => match outside_of(&error) {
+                    None => {}
+                    Some(Outside::Memory) => return Err(Outside::Memory),
+                    Some(Outside::Failed) => break,
                 },
             }
         }

@@ -3,6 +3,7 @@ mod NumbersLemmas
 mod WordsLemmas
 mod StatementLemmas
 pub mod Written
+pub mod OptionsLaws
 pub mod ScriptLaws
 pub mod EndedLaws
 pub mod RunLemmas

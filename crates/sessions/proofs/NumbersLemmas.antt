@@ -6,7 +6,7 @@ use Rattle.std.proofs.lemmas.Str.Parse.{IsNumeralModel, numerals_by_value, tells
 use Rattle.std.specs.Result.{OkIff, result_ok}
 use Rattle.std.specs.Str.{all_ascii_digits}
 use Rattle.std.specs.Str.Parse.{ParsesUnsigned, digits_value}
-use Rattle.sessions.specs.Numbers.{value_of, below, is_numeral, number_of}
+use Rattle.sessions.specs.Numbers.{numeral_of, below, is_numeral, number_of}
 
 -- digits, and the number that they write
 pub numerals : IsNumeralModel (λ word. all_ascii_digits word ≡ true) (digits_value 10)
@@ -28,7 +28,7 @@ fits_decides word =
     (Decides-and _ _ (Decides-and _ _ (Decides-ltb 0 (length word)) (λ e. e, λ e. e)) (Decides-ltb (digits_value 10 word) (2 ^ 64)))
 
 -- what `parse` gives for a word that doesn't begin with a plus
-pub parsed : {E : Type 0} (word : List ℕ) (r : Result ℕ E) → ParsesUnsigned 64 10 word r → get_or word 0 0 ≢ 43 → result_ok r ≡ below (2 ^ 64) (value_of word)
+pub parsed : {E : Type 0} (word : List ℕ) (r : Result ℕ E) → ParsesUnsigned 64 10 word r → get_or word 0 0 ≢ 43 → result_ok r ≡ below (2 ^ 64) (numeral_of word)
 parsed word r parses plain =
     ok_decided r (digits_value 10 word) _ (parse_plain numerals 64 word r parses plain) (fits_decides word)
     ∙ sym (below-value (is_numeral word) (digits_value 10 word) (2 ^ 64))
@@ -42,7 +42,7 @@ short_turn word true is short =
 short_turn word false is short = refl
 
 -- a number of few digits fits
-pub below-short : (word : List ℕ) → length word ≤ 15 → below (2 ^ 64) (value_of word) ≡ value_of word
+pub below-short : (word : List ℕ) → length word ≤ 15 → below (2 ^ 64) (numeral_of word) ≡ numeral_of word
 below-short word short = below-value (is_numeral word) (digits_value 10 word) (2 ^ 64) ∙ short_turn word (is_numeral word) refl short
 
 -- a number of a script is as short as its digits
@@ -54,7 +54,7 @@ short-below word n true is short h =
     omega (arith, small, same)
 short-below word n false is short h = absurd (cc)
 
-number-turn : (word : List ℕ) (n : ℕ) (short : Bool) → leb (length word) 15 ≡ short → cond short (value_of word) None ≡ Some n → n < 10 ^ 15
+number-turn : (word : List ℕ) (n : ℕ) (short : Bool) → leb (length word) 15 ≡ short → cond short (numeral_of word) None ≡ Some n → n < 10 ^ 15
 number-turn word n true is h = short-below word n (is_numeral word) refl (let le : length word ≤ 15 = grind (arith, nat_tests) in le) h
 number-turn word n false is h = absurd (cc)
 

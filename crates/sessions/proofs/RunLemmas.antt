@@ -15,9 +15,9 @@ use Rattle.sessions.specs.declared.input.InputError.TheVariants as input
 use Rattle.sessions.specs.declared.names.TheConstants.{LINES_MOST}
 use Rattle.sessions.specs.declared.options.Options.{Options}
 use Rattle.sessions.specs.declared.status.TheConstants.{BAD_LINE, TOO_LONG}
-use Rattle.sessions.specs.Ended.{Streams, ended_as, input_end, EndsAs}
+use Rattle.sessions.specs.Ended.{Streams, end_of_lines, end_of_input, EndsAs}
 use Rattle.sessions.specs.Script.{ScriptState, Bad, Goes, ScriptEnd, no_script, first_state, script_with, after_text, turn_end, line_turn, lines_end}
-use Rattle.sessions.specs.Scripts.{LinesEnded, stopped_by, bad_line_end, stop_after, WentOn, EndedAt}
+use Rattle.sessions.specs.Running.{LinesEnded, stopped_by, bad_line_end, stop_after, WentOn, EndedAt}
 use Rattle.sessions.specs.Texts.{bad_text}
 use Rattle.sessions.specs.Transfers.{IsWholeInput, ExplainsInput, WroteFront, ExplainsOutput}
 
@@ -134,7 +134,7 @@ short-script options bytes fits =
 
 -- what a script leaves whose input could not be read
 pub input-ends : (options : Options) (s : Streams) (error : InputError) → ExplainsInput s.left s.left_now s.reads s.reads_now error → Keeps s.written s.written_now
-    → EndsAs (Some options) s (input_end error)
+    → EndsAs (Some options) s (end_of_input error)
 input-ends options s input.Failed h kept = (refl, h, kept)
 input-ends options s input.TooLong h kept = (refl, h, kept)
 input-ends options s input.Memory h kept =
@@ -146,13 +146,13 @@ input-ends options s input.Memory h kept =
     (refl, turn s.left)
 
 -- what a script leaves that was read whole
-pub lines-end_as : (options : Options) (s : Streams) (bytes : List ℕ) (r : LinesEnd) → IsWholeInput s.left s.left_now bytes
-    → LinesEnded s.written s.written_now s.writes s.writes_now (script_with (Some options) bytes).text (script_with (Some options) bytes).status r → EndsAs (Some options) s (ended_as r)
-lines-end_as options s bytes end.Whole whole h = (refl, Consumes-whole s.left s.left_now bytes _ whole.read whole.at_end h, whole.at_end)
-lines-end_as options s bytes end.BadLine whole h = (refl, Consumes-whole s.left s.left_now bytes _ whole.read whole.at_end h, whole.at_end)
-lines-end_as options s bytes end.WriteFault whole h =
+pub whole-ends : (options : Options) (s : Streams) (bytes : List ℕ) (r : LinesEnd) → IsWholeInput s.left s.left_now bytes
+    → LinesEnded s.written s.written_now s.writes s.writes_now (script_with (Some options) bytes).text (script_with (Some options) bytes).status r → EndsAs (Some options) s (end_of_lines r)
+whole-ends options s bytes end.Whole whole h = (refl, Consumes-whole s.left s.left_now bytes _ whole.read whole.at_end h, whole.at_end)
+whole-ends options s bytes end.BadLine whole h = (refl, Consumes-whole s.left s.left_now bytes _ whole.read whole.at_end h, whole.at_end)
+whole-ends options s bytes end.WriteFault whole h =
     (refl, h.1, Consumes-whole s.left s.left_now bytes (λ b. length b ≤ SCRIPT_MOST) whole.read whole.at_end whole.fits, Consumes-whole s.left s.left_now bytes _ whole.read whole.at_end h.0)
-lines-end_as options s bytes end.Memory whole h = (refl, Consumes-whole s.left s.left_now bytes _ whole.read whole.at_end h)
+whole-ends options s bytes end.Memory whole h = (refl, Consumes-whole s.left s.left_now bytes _ whole.read whole.at_end h)
 
 -- what the lines of a script left, the script left
 pub bytes-end : (options : Options) (bytes : List ℕ) (s : ScriptState) (a b : Option (List ℕ)) (o n : ℕ) (r : LinesEnd) → length bytes ≤ SCRIPT_MOST

@@ -1,15 +1,12 @@
 -- A script's journal is one legal history of the machine, and the quantity is conserved after each of its entries.
-use Rattle.std.proofs.Common.{◌≡◌, ℕ, ◌+◌, ◌-◌, ◌≤◌, ◌<◌, take, Bool, true, false, cond, eqb, leb, ltb, List, [], ◌∷◌, length, Option, Some, None, Result, Ok, Err, refl, sym, subst, arith}
-use Rattle.std.proofs.lemmas.Bool.Decides.{nat_tests}
+use Rattle.std.proofs.Common.{◌≡◌, ℕ, ◌+◌, Bool, true, false, cond, ltb, List, [], ◌∷◌, length, Option, Some, None, Result, Ok, Err, refl, sym, subst}
 use Rattle.pool_sql.specs.Reading.{read_of}
 use Rattle.pool_sql.proofs.Texts.{read_of-in_range}
 use Rattle.rm_base.specs.declared.definitions.Definitions.{Definitions}
 use Rattle.rm_base.specs.declared.entry.Entry.{Entry}
 use Rattle.rm_base.specs.declared.event.Event.{Event}
 use Rattle.rm_base.specs.declared.event.Event.TheVariants as event
-use Rattle.rm_base.specs.declared.limits.TheConstants.{SCRIPT_ROOM, SCRIPT_MOST, MEMORY_LEAST, MEMORY_MOST, CORES_MOST}
-use Rattle.std.specs.Prelude.{slice_index}
-use Rattle.std.specs.Option.{option_and_then}
+use Rattle.rm_base.specs.declared.limits.TheConstants.{SCRIPT_ROOM, SCRIPT_MOST}
 use Rattle.std.specs.Str.Lines.{lines}
 use Rattle.sessions.specs.declared.status.TheConstants.{TOO_LONG}
 use Rattle.rm_base.specs.declared.name.Name.{Name}
@@ -26,11 +23,10 @@ use Rattle.rm_rules.specs.Conserved.{ConservedAfterEach}
 use Rattle.rm_rules.proofs.Laws.{legal-step, replay-step, conserved-after-each, fresh-sound}
 use Rattle.sessions.specs.declared.options.Options.{Options}
 use Rattle.sessions.specs.Commands.{Command, At, Sql, Open, SetPool, Ask, Poll, Done, command_of}
-use Rattle.sessions.specs.Numbers.{below, at_least, in_range, value_of}
-use Rattle.sessions.specs.Options.{unit_of, times, memory_of, cores_of, both_options, values_in, options_of}
-use Rattle.sessions.specs.OptionsFacts.{AreWithin}
+use Rattle.sessions.specs.Options.{options_of}
 use Rattle.sessions.specs.Script.{ScriptState, Turn, Bad, Goes, judged_turn, read_turn, with_name, chosen_turn, opened_turn, opening_turn, set_pool_turn, ask_turn, poll_turn, done_turn, turn, command_turn, line_turn, is_comment, ScriptEnd, turn_end, lines_end, no_script, script_start, first_state, script_with, script, IsOneHistory}
 use Rattle.sessions.specs.SessionNames.{session_named}
+use Rattle.sessions.proofs.OptionsLaws.{options-within}
 
 -- a fact of the machine that a turn leaves, where it leaves one
 abbrev OnGoes : (State → Type 0) → Turn → Type 0
@@ -137,75 +133,23 @@ pub legal-lines : (first : State) (n : ℕ) (s : ScriptState) (lines : List (Lis
 legal-lines first n s lines h =
     lines_end-keeps (IsHistory first) (IsLegal first) (λ m k. k.legal) (history-step first) n s lines h
 
--- options that are read are within their ranges
-below-some : (limit n : ℕ) (o : Option ℕ) → below limit o ≡ Some n → (o ≡ Some n) × (n < limit)
-below-some limit n None h = absurd (cc)
-below-some limit n (Some m) h =
-    let turn : (b : Bool) → ltb m limit ≡ b → cond b (Some m) None ≡ Some n → (Some m ≡ Some n) × (n < limit) =
-    λ b. elim b as (λ c. ltb m limit ≡ c → cond c (Some m) None ≡ Some n → (Some m ≡ Some n) × (n < limit)) [
-      | true ↦ λ e (k : Some m ≡ Some n). let same : m ≡ n = cc in (k, let lt : m < limit = grind (arith, nat_tests) in omega arith)
-      | false ↦ λ e (k : None ≡ Some n). absurd (cc)
-    ] in
-    turn (ltb m limit) refl h
+-- the journal of a script is a legal history from its first state
+legal : (o : Options) (bytes : List ℕ) → IsLegal (script_start o) (script_with (Some o) bytes).journal
+legal o bytes =
+    elim (ltb SCRIPT_MOST (length bytes)) as (λ b. IsLegal (script_start o) (cond b (no_script TOO_LONG) (lines_end 1 (first_state o) (lines bytes))).journal) [
+      | true ↦ tt
+      | false ↦ legal-lines (script_start o) 1 (first_state o) (lines bytes) (record { legal = tt; replays = refl })
+    ]
 
-at_least-some : (least n : ℕ) (o : Option ℕ) → at_least least o ≡ Some n → least ≤ n
-at_least-some least n None h = absurd (cc)
-at_least-some least n (Some m) h =
-    let turn : (b : Bool) → leb least m ≡ b → cond b (Some m) None ≡ Some n → least ≤ n =
-    λ b. elim b as (λ c. leb least m ≡ c → cond c (Some m) None ≡ Some n → least ≤ n) [
-      | true ↦ λ e (k : Some m ≡ Some n). let same : m ≡ n = cc in let le : least ≤ m = grind (arith, nat_tests) in omega arith
-      | false ↦ λ e (k : None ≡ Some n). absurd (cc)
-    ] in
-    turn (leb least m) refl h
-
-in_range-some : (least most n : ℕ) (o : Option ℕ) → in_range least most o ≡ Some n → (least ≤ n) × (n ≤ most)
-in_range-some least most n o h =
-    let upper = below-some (most + 1) n (at_least least o) h in
-    (at_least-some least n o upper.0, omega (arith, upper.1))
-
-both-within : (o : Options) (memory cores : Option ℕ) → ((n : ℕ) → memory ≡ Some n → (MEMORY_LEAST ≤ n) × (n ≤ MEMORY_MOST)) → ((n : ℕ) → cores ≡ Some n → (1 ≤ n) × (n ≤ CORES_MOST))
-    → both_options memory cores ≡ Some o → AreWithin o
-both-within o None cores m c h = absurd (cc)
-both-within o (Some memory) None m c h = absurd (cc)
-both-within o (Some memory) (Some cores) m c h =
-    let a = m memory refl in
-    let b = c cores refl in
-    let P : Options → Type 0 = AreWithin in
-    let one : record { memory = memory; cores = cores } ≡ o = cc in
-    subst P one (record { memory_least = a.0; memory_most = a.1; cores_least = b.0; cores_most = b.1 })
-
-cores-within : (word : List ℕ) (n : ℕ) → cores_of word ≡ Some n → (1 ≤ n) × (n ≤ CORES_MOST)
-cores-within word n h =
-    let turn : (b : Bool) → cond b None (in_range 1 CORES_MOST (value_of word)) ≡ Some n → (1 ≤ n) × (n ≤ CORES_MOST) =
-    λ b. elim b as (λ c. cond c None (in_range 1 CORES_MOST (value_of word)) ≡ Some n → (1 ≤ n) × (n ≤ CORES_MOST)) [
-      | true ↦ λ (k : None ≡ Some n). absurd (cc)
-      | false ↦ λ k. in_range-some 1 CORES_MOST n (value_of word) k
-    ] in
-    turn (eqb (slice_index word 0) 48) h
-
-memory-within : (word : List ℕ) (n : ℕ) → memory_of word ≡ Some n → (MEMORY_LEAST ≤ n) × (n ≤ MEMORY_MOST)
-memory-within word n h =
-    let last = length word - 1 in
-    in_range-some MEMORY_LEAST MEMORY_MOST n (times (value_of (take last word)) (unit_of (slice_index word last))) h
-
-values-within : (o : Options) (values : Option (List ℕ × List ℕ)) → option_and_then (λ v. both_options (memory_of v.0) (cores_of v.1)) values ≡ Some o → AreWithin o
-values-within o None h = absurd (cc)
-values-within o (Some v) h =
-    both-within o (memory_of v.0) (cores_of v.1) (memory-within v.0) (cores-within v.1) h
-
-pub options-within : (words : List (List ℕ)) (o : Options) → options_of words ≡ Some o → AreWithin o
-options-within words o h = values-within o (values_in words) h
-
--- the headline, for scripts
+-- the headline, for scripts: what every legal history from sound definitions keeps, a script's does
 pub one_history : (words : List (List ℕ)) (bytes : List ℕ) (o : Options) → options_of words ≡ Some o → IsOneHistory o (script words bytes)
 one_history words bytes o h =
-    let first = script_start o in
-    let sound = let w = options-within words o h in fresh-sound o.memory o.cores w.memory_least w.memory_most w.cores_least w.cores_most in
-    let legal : IsLegal first (script_with (Some o) bytes).journal =
-    elim (ltb SCRIPT_MOST (length bytes)) as (λ b. IsLegal first (cond b (no_script TOO_LONG) (lines_end 1 (first_state o) (lines bytes))).journal) [
-      | true ↦ tt
-      | false ↦ legal-lines first 1 (first_state o) (lines bytes) (record { legal = tt; replays = refl })
-    ] in
-    let conserved : ConservedAfterEach first (script_with (Some o) bytes).journal = conserved-after-each (fresh o.memory o.cores) SCRIPT_ROOM (script_with (Some o) bytes).journal sound legal in
-    let both : IsOneHistory o (script_with (Some o) bytes) = record { legal = legal; conserved = conserved } in
-    subst (λ (q : Option Options). IsOneHistory o (script_with q bytes)) (sym h) both
+    let d = fresh o.memory o.cores in
+    let w = options-within words o h in
+    let sound = fresh-sound o.memory o.cores w.memory_least w.memory_most w.cores_least w.cores_most in
+    let entries = (script_with (Some o) bytes).journal in
+    let is : IsOneHistory o (script_with (Some o) bytes) = record {
+      legal = legal o bytes;
+      conserved = conserved-after-each d SCRIPT_ROOM entries sound (legal o bytes);
+    } in
+    subst (λ (q : Option Options). IsOneHistory o (script_with q bytes)) (sym h) is

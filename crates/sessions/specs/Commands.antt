@@ -10,7 +10,7 @@ use Rattle.sessions.specs.declared.command.Command.{Command as Told}
 use Rattle.sessions.specs.declared.command.Command.TheVariants as told
 use Rattle.rm_base.specs.Name.{name_of}
 use Rattle.sessions.specs.Numbers.{number_of, floor_of}
-use Rattle.sessions.specs.Words.{is_space, words, one_behind, two_behind, three_behind}
+use Rattle.sessions.specs.Words.{is_space, line_words, one_behind, two_behind, three_behind}
 
 -- what a line of a script asks for: N is a number, TEXT is a text, S and USER and POOL are names
 pub data Command : Type 0 where
@@ -114,13 +114,13 @@ done_line words = option_and_then (λ session. option_map Done (name_of session)
 
 -- the command of a line that begins with a verb
 abbrev pub command_with : Verb → List ℕ → Option Command
-command_with verb.At line = at_line (words line)
+command_with verb.At line = at_line (line_words line)
 command_with verb.Sql line = option_map Sql (text_behind line)
-command_with verb.Open line = open_line (words line)
-command_with verb.Set line = set_line (words line)
-command_with verb.Ask line = ask_line (words line)
-command_with verb.Poll line = poll_line (words line)
-command_with verb.Done line = done_line (words line)
+command_with verb.Open line = open_line (line_words line)
+command_with verb.Set line = set_line (line_words line)
+command_with verb.Ask line = ask_line (line_words line)
+command_with verb.Poll line = poll_line (line_words line)
+command_with verb.Done line = done_line (line_words line)
 
 -- the command that a line gives, where its first word is a verb and what follows is as the verb wants it
 abbrev pub command_of : List ℕ → Option Command

@@ -25,17 +25,17 @@ status_of ended.Memory = NO_MEMORY
 status_of ended.TooLong = TOO_LONG
 
 -- how a script ends whose lines end so
-abbrev pub ended_as : LinesEnd → Ended
-ended_as lines_end.Whole = ended.Done
-ended_as lines_end.BadLine = ended.BadLine
-ended_as lines_end.WriteFault = ended.WriteFault
-ended_as lines_end.Memory = ended.Memory
+abbrev pub end_of_lines : LinesEnd → Ended
+end_of_lines lines_end.Whole = ended.Done
+end_of_lines lines_end.BadLine = ended.BadLine
+end_of_lines lines_end.WriteFault = ended.WriteFault
+end_of_lines lines_end.Memory = ended.Memory
 
 -- how a script ends that could not be read
-abbrev pub input_end : InputError → Ended
-input_end input.Failed = ended.ReadFault
-input_end input.TooLong = ended.TooLong
-input_end input.Memory = ended.Memory
+abbrev pub end_of_input : InputError → Ended
+end_of_input input.Failed = ended.ReadFault
+end_of_input input.TooLong = ended.TooLong
+end_of_input input.Memory = ended.Memory
 
 -- the input and the output, before a script and after it: the bytes left, the bytes written, and the counts of faults
 pub record Streams : Type 0 where

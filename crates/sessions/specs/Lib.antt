@@ -10,4 +10,4 @@ pub mod SessionNames
 pub mod Script
 pub mod OptionsFacts
 pub mod Ended
-pub mod Scripts
+pub mod Running

@@ -9,8 +9,8 @@ abbrev pub is_numeral : List ℕ → Bool
 is_numeral word = nat_lt 0 (length word) && all_ascii_digits word
 
 -- the number that a word of digits writes, however long it is
-abbrev pub value_of : List ℕ → Option ℕ
-value_of word = if is_numeral word then Some (digits_value 10 word) else None
+abbrev pub numeral_of : List ℕ → Option ℕ
+numeral_of word = if is_numeral word then Some (digits_value 10 word) else None
 
 -- the number if there is one and it is below a limit
 abbrev pub below : ℕ → Option ℕ → Option ℕ
@@ -28,7 +28,7 @@ in_range least most number = below (most + 1) (at_least least number)
 
 -- a number of a script: 1 to 15 digits, leading zeros counted
 abbrev pub number_of : List ℕ → Option ℕ
-number_of word = if nat_le (length word) DIGITS_MOST then value_of word else None
+number_of word = if nat_le (length word) DIGITS_MOST then numeral_of word else None
 
 -- a floor: a number of a script from 1 on
 abbrev pub floor_of : List ℕ → Option ℕ

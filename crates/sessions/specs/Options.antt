@@ -3,20 +3,20 @@ use Rattle.std.specs.Prelude.{ℕ, Bool, ◌&&◌, ◌-◌, ◌*◌, ◌^◌, �
 use Rattle.std.specs.Option.{option_and_then}
 use Rattle.std.specs.Str.{bytes_eq}
 use Rattle.rm_base.specs.declared.limits.TheConstants.{MEMORY_LEAST, MEMORY_MOST, CORES_MOST}
-use Rattle.sessions.specs.Numbers.{value_of, in_range}
+use Rattle.sessions.specs.Numbers.{numeral_of, in_range}
 use Rattle.sessions.specs.declared.options.Options.{Options}
 
 -- a byte is the one of a text of one byte
-abbrev pub is_letter : List ℕ → ℕ → Bool
-is_letter text byte = byte == slice_index text 0
+abbrev pub is_byte_of : List ℕ → ℕ → Bool
+is_byte_of text byte = byte == slice_index text 0
 
 -- how many bytes the letter of a unit stands for
 abbrev pub unit_of : ℕ → Option ℕ
 unit_of letter =
-    if is_letter (codes "K") letter then Some (2 ^ 10)
-    else (if is_letter (codes "M") letter then Some (2 ^ 20)
-    else (if is_letter (codes "G") letter then Some (2 ^ 30)
-    else (if is_letter (codes "T") letter then Some (2 ^ 40) else None)))
+    if is_byte_of (codes "K") letter then Some (2 ^ 10)
+    else (if is_byte_of (codes "M") letter then Some (2 ^ 20)
+    else (if is_byte_of (codes "G") letter then Some (2 ^ 30)
+    else (if is_byte_of (codes "T") letter then Some (2 ^ 40) else None)))
 
 -- so many units
 abbrev pub times : Option ℕ → Option ℕ → Option ℕ
@@ -28,11 +28,11 @@ times (Some n) (Some unit) = Some (n * unit)
 abbrev pub memory_of : List ℕ → Option ℕ
 memory_of word =
     let last = length word - 1 in
-    in_range MEMORY_LEAST MEMORY_MOST (times (value_of (take last word)) (unit_of (slice_index word last)))
+    in_range MEMORY_LEAST MEMORY_MOST (times (numeral_of (take last word)) (unit_of (slice_index word last)))
 
 -- a number of cores: digits that don't begin with 0
 abbrev pub cores_of : List ℕ → Option ℕ
-cores_of word = if is_letter (codes "0") (slice_index word 0) then None else in_range 1 CORES_MOST (value_of word)
+cores_of word = if is_byte_of (codes "0") (slice_index word 0) then None else in_range 1 CORES_MOST (numeral_of word)
 
 -- the options, where both are read
 abbrev pub both_options : Option ℕ → Option ℕ → Option Options

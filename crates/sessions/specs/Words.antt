@@ -15,8 +15,8 @@ abbrev pub pieces : List ℕ → List (List ℕ)
 pieces line = filter (λ piece. nat_lt 0 (length piece)) (slice_split is_space line)
 
 -- the words of a line: a line that begins or ends with a space has none
-abbrev pub words : List ℕ → List (List ℕ)
-words line = if has_outer_space line then [] else pieces line
+abbrev pub line_words : List ℕ → List (List ℕ)
+line_words line = if has_outer_space line then [] else pieces line
 
 -- the one word behind the first, where there are two words
 abbrev pub one_behind : List (List ℕ) → Option (List ℕ)

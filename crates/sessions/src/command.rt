@@ -4,7 +4,7 @@ ghost use Rattle.std.specs.Prelude.{◌≡◌, map, option_map, IfOk};
 ghost use Rattle.sessions.specs.Commands.{seen_command, verb_of, first_word, text_behind, at_line, open_plain, open_in_pool, open_line, set_line, ask_line, poll_line, done_line, command_with, command_of};
 
 use crate::numbers::{Number, floor_of, moment_of};
-use crate::words::{one_behind, three_behind, two_behind, words};
+use crate::words::{line_words, one_behind, three_behind, two_behind};
 use rm_base::name::Name;
 use std::alloc::{AllocError, Global};
 
@@ -70,13 +70,13 @@ fn read_with(alloc: Global, verb: Verb, line: &str) -> Result<Option<Command<'_>
     ensures { IfOk result (λ command. option_map seen_command command ≡ command_with verb line.now) }
 {
     match verb {
-        Verb::At => Ok(at_line(&words(alloc, line)?)),
+        Verb::At => Ok(at_line(&line_words(alloc, line)?)),
         Verb::Sql => Ok(text_behind(line).map(Command::Sql)),
-        Verb::Open => Ok(open_line(&words(alloc, line)?)),
-        Verb::Set => Ok(set_line(&words(alloc, line)?)),
-        Verb::Ask => Ok(ask_line(&words(alloc, line)?)),
-        Verb::Poll => Ok(poll_line(&words(alloc, line)?)),
-        Verb::Done => Ok(done_line(&words(alloc, line)?)),
+        Verb::Open => Ok(open_line(&line_words(alloc, line)?)),
+        Verb::Set => Ok(set_line(&line_words(alloc, line)?)),
+        Verb::Ask => Ok(ask_line(&line_words(alloc, line)?)),
+        Verb::Poll => Ok(poll_line(&line_words(alloc, line)?)),
+        Verb::Done => Ok(done_line(&line_words(alloc, line)?)),
     }
 }
 

@@ -1,7 +1,7 @@
 //! How a script ends.
 
 ghost use Rattle.std.specs.Prelude.{◌≡◌};
-ghost use Rattle.sessions.specs.Ended.{status_of, ended_as, input_end};
+ghost use Rattle.sessions.specs.Ended.{status_of, end_of_lines, end_of_input};
 
 use crate::input::InputError;
 use crate::status::{BAD_LINE, DONE, NO_MEMORY, READ_FAULT, Status, TOO_LONG, USAGE, WRITE_FAULT};
@@ -43,8 +43,8 @@ pub fn status_of(ended: Ended) -> Status
 }
 
 /// How a script ends whose lines ended so.
-pub fn ended_as(end: LinesEnd) -> Ended
-    ensures { result ≡ ended_as end }
+pub fn end_of_lines(end: LinesEnd) -> Ended
+    ensures { result ≡ end_of_lines end }
 {
     match end {
         LinesEnd::Whole => Ended::Done,
@@ -55,8 +55,8 @@ pub fn ended_as(end: LinesEnd) -> Ended
 }
 
 /// How a script ends that could not be read.
-pub fn input_end(error: InputError) -> Ended
-    ensures { result ≡ input_end error }
+pub fn end_of_input(error: InputError) -> Ended
+    ensures { result ≡ end_of_input error }
 {
     match error {
         InputError::Failed => Ended::ReadFault,

@@ -2,7 +2,7 @@
 
 ghost use Rattle.std.specs.Prelude.{◌≡◌, ◌^◌, ◌<◌, option_map};
 ghost use Rattle.sessions.specs.declared.numbers.TheConstants.{DIGITS_MOST};
-ghost use Rattle.sessions.specs.Numbers.{value_of, below, number_of, floor_of};
+ghost use Rattle.sessions.specs.Numbers.{numeral_of, below, number_of, floor_of};
 
 /// How many digits a number of a script has at most.
 pub const DIGITS_MOST: usize = 15;
@@ -17,8 +17,8 @@ pub struct Number {
 /// The number that a word of digits writes, where 64 bits hold it.
 ///
 /// `parse` alone would let a `+` in.
-pub fn value_of(word: &str) -> Option<u64>
-    ensures { result ≡ below (2 ^ 64) (value_of word.now) }
+pub fn numeral_of(word: &str) -> Option<u64>
+    ensures { result ≡ below (2 ^ 64) (numeral_of word.now) }
 {
     if word.starts_with('+') {
         return None;
@@ -33,7 +33,7 @@ pub fn number_of(word: &str) -> Option<u64>
     if word.len() > DIGITS_MOST {
         return None;
     }
-    value_of(word)
+    numeral_of(word)
 }
 
 /// A moment: a number of a script from 0 on.

@@ -5,7 +5,7 @@ ghost use Rattle.sessions.specs.Numbers.{in_range};
 ghost use Rattle.sessions.specs.OptionsFacts.{AreWithin};
 ghost use Rattle.sessions.specs.Options.{unit_of, memory_of, cores_of, values_in, options_of};
 
-use crate::numbers::value_of;
+use crate::numbers::numeral_of;
 use rm_base::limits::{CORES_MOST, MEMORY_LEAST, MEMORY_MOST};
 
 /// What the words of the command line say of the machine.
@@ -57,7 +57,7 @@ fn memory_of(word: &str) -> Option<u64>
 {
     let last = word.len().checked_sub(1)?;
     let unit = unit_of(word.as_bytes()[last])?;
-    let number = value_of(&word[..last])?;
+    let number = numeral_of(&word[..last])?;
     in_range(MEMORY_LEAST, MEMORY_MOST, number.checked_mul(unit)?)
 }
 
@@ -81,7 +81,7 @@ fn cores_of(word: &str) -> Option<u32>
     if word.starts_with('0') {
         return None;
     }
-    let cores = in_range(1, u64::from(CORES_MOST), value_of(word)?)?;
+    let cores = in_range(1, u64::from(CORES_MOST), numeral_of(word)?)?;
     u32::try_from(cores).ok()
 }
 

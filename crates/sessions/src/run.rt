@@ -4,7 +4,7 @@ ghost use Rattle.std.specs.Prelude.{◌≡◌, ◌≤◌, IfNone, IfSome};
 ghost use Rattle.std.specs.Str.Lines.{lines};
 ghost use Rattle.sessions.specs.Script.{lines_end};
 ghost use Rattle.sessions.specs.Texts.{bad_text};
-ghost use Rattle.sessions.specs.Scripts.{seen, LinesEnded, stopped_by, bad_line_end, stop_after, WentOn, EndedAt};
+ghost use Rattle.sessions.specs.Running.{seen_script, LinesEnded, stopped_by, bad_line_end, stop_after, WentOn, EndedAt};
 
 use crate::ended::LinesEnd;
 use crate::lines::cut_line;
@@ -66,10 +66,10 @@ fn run_line<O: Sink>(
     out: &mut O,
 ) -> Option<LinesEnd>
     ensures later { O.faults out.old ≤ O.faults out.new }
-    ensures goes { IfNone result (WentOn number (seen script.old) (seen script.new) line.now (O.written out.old) (O.written out.new)) }
-    ensures ends { IfSome result (EndedAt number (seen script.old) line.now (O.written out.old) (O.written out.new) (O.faults out.old) (O.faults out.new)) }
+    ensures goes { IfNone result (WentOn number (seen_script script.old) (seen_script script.new) line.now (O.written out.old) (O.written out.new)) }
+    ensures ends { IfSome result (EndedAt number (seen_script script.old) line.now (O.written out.old) (O.written out.new) (O.faults out.old) (O.faults out.new)) }
 {
-    match script.line(alloc, number, line) {
+    match script.take_line(alloc, number, line) {
         Err(_) => return Some(LinesEnd::Memory),
         Ok(Turned::Bad) => return Some(end_badly(alloc, number, out)),
         Ok(Turned::Goes(text)) => return stop_after(write_text(out, text.as_bytes())),
@@ -80,7 +80,7 @@ fn run_line<O: Sink>(
 /// it goes on.
 pub fn run_lines<O: Sink>(alloc: Global, bytes: &[u8], script: &mut Script, out: &mut O) -> LinesEnd
     ensures later { O.faults out.old ≤ O.faults out.new }
-    ensures ends { let end = lines_end 1 (seen script.old) (lines bytes.now) in
+    ensures ends { let end = lines_end 1 (seen_script script.old) (lines bytes.now) in
         LinesEnded (O.written out.old) (O.written out.new) (O.faults out.old) (O.faults out.new) end.text end.status result }
 {
     let mut rest = bytes;

@@ -4,7 +4,7 @@ ghost use Rattle.std.specs.Prelude.{◌≡◌, IfOk};
 ghost use Rattle.rm_base.specs.declared.reply.Reply.TheVariants as reply;
 ghost use Rattle.rm_rules.specs.Acceptance.{is_pool_statement};
 ghost use Rattle.sessions.specs.Script.{ScriptState, Goes};
-ghost use Rattle.sessions.specs.Scripts.{seen_turn};
+ghost use Rattle.sessions.specs.Running.{seen_turn};
 ghost use Rattle.sessions.specs.Texts.{bare_text};
 
 use crate::command::{Command, read_command};
@@ -53,12 +53,12 @@ impl Script {
     ghost use Rattle.sessions.specs.OptionsFacts.{AreWithin};
     ghost use Rattle.sessions.specs.Script.{first_state, line_turn, turn, at_turn, sql_turn, statement_turn, open_turn, opening_turn, chosen_turn, set_pool_turn, ask_turn, poll_turn, done_turn};
     ghost use Rattle.sessions.specs.SessionNames.{session_named};
-    ghost use Rattle.sessions.specs.Scripts.{seen, seen_turn, IsEarly};
+    ghost use Rattle.sessions.specs.Running.{seen_script, seen_turn, IsEarly};
 
     /// A script before its first line.
     pub fn new(alloc: Global, options: Options) -> Result<Script, AllocError>
         requires { AreWithin options }
-        ensures { IfOk result (λ s. seen s ≡ first_state options) }
+        ensures { IfOk result (λ s. seen_script s ≡ first_state options) }
     {
         let definitions = Definitions::new(alloc, options.memory, options.cores)?;
         Ok(Script {
@@ -69,8 +69,8 @@ impl Script {
     }
 
     /// Does what a line says, the line's number being counted from 1.
-    pub fn line(&mut self, alloc: Global, number: u64, line: &[u8]) -> Result<Turned, AllocError>
-        ensures turn { IfOk result (λ t. seen_turn t (seen self.new) ≡ line_turn number (seen self.old) line.now) }
+    pub fn take_line(&mut self, alloc: Global, number: u64, line: &[u8]) -> Result<Turned, AllocError>
+        ensures turn { IfOk result (λ t. seen_turn t (seen_script self.new) ≡ line_turn number (seen_script self.old) line.now) }
         ensures early { IfOk result (IsEarly number) }
     {
         if number > LINES_MOST {
@@ -84,17 +84,17 @@ impl Script {
         }
         match read_command(alloc, line)? {
             None => Ok(Turned::Bad),
-            Some(command) => self.command(alloc, command),
+            Some(command) => self.take_command(alloc, command),
         }
     }
 
     /// Does what a command says.
-    fn command(&mut self, alloc: Global, command: Command<'_>) -> Result<Turned, AllocError>
-        ensures { IfOk result (λ t. seen_turn t (seen self.new) ≡ turn (seen self.old) (seen_command command.entry)) }
+    fn take_command(&mut self, alloc: Global, command: Command<'_>) -> Result<Turned, AllocError>
+        ensures { IfOk result (λ t. seen_turn t (seen_script self.new) ≡ turn (seen_script self.old) (seen_command command.entry)) }
     {
         match command {
-            Command::At(moment) => Ok(self.at(alloc, moment)),
-            Command::Sql(text) => self.sql(alloc, text),
+            Command::At(moment) => Ok(self.move_to(alloc, moment)),
+            Command::Sql(text) => self.take_text(alloc, text),
             Command::Open {
                 session,
                 user,
@@ -103,13 +103,13 @@ impl Script {
             Command::SetPool { session, pool } => self.set_pool(alloc, session, pool),
             Command::Ask { session, floor } => self.ask(alloc, session, floor),
             Command::Poll { session } => self.poll(alloc, session),
-            Command::Done { session } => self.done(alloc, session),
+            Command::Done { session } => self.finish(alloc, session),
         }
     }
 
     /// `at N`
-    fn at(&mut self, alloc: Global, moment: Number) -> Turned
-        ensures { seen_turn result (seen self.new) ≡ at_turn (seen self.old) moment.value }
+    fn move_to(&mut self, alloc: Global, moment: Number) -> Turned
+        ensures { seen_turn result (seen_script self.new) ≡ at_turn (seen_script self.old) moment.value }
     {
         let moment = Moment::of(moment.value);
         if moment < self.moment {
@@ -120,20 +120,20 @@ impl Script {
     }
 
     /// `sql TEXT`
-    fn sql(&mut self, alloc: Global, text: &str) -> Result<Turned, AllocError>
-        ensures { IfOk result (λ t. seen_turn t (seen self.new) ≡ sql_turn (seen self.old) text.now) }
+    fn take_text(&mut self, alloc: Global, text: &str) -> Result<Turned, AllocError>
+        ensures { IfOk result (λ t. seen_turn t (seen_script self.new) ≡ sql_turn (seen_script self.old) text.now) }
     {
         match read_statement(alloc, text) {
-            Ok(statement) => self.statement(alloc, &statement),
+            Ok(statement) => self.take_statement(alloc, &statement),
             Err(ReadError::Refused(refusal)) => refused(alloc, refusal),
             Err(ReadError::Memory) => Err(AllocError),
         }
     }
 
     /// A statement that was read. It changes nothing unless it is accepted.
-    fn statement(&mut self, alloc: Global, statement: &Statement) -> Result<Turned, AllocError>
+    fn take_statement(&mut self, alloc: Global, statement: &Statement) -> Result<Turned, AllocError>
         requires { is_statement_in_range statement.now ≡ true }
-        ensures { IfOk result (λ t. seen_turn t (seen self.new) ≡ statement_turn (seen self.old) statement.now) }
+        ensures { IfOk result (λ t. seen_turn t (seen_script self.new) ≡ statement_turn (seen_script self.old) statement.now) }
     {
         if !is_pool_statement(statement) {
             return Ok(Turned::Bad);
@@ -155,7 +155,7 @@ impl Script {
         user: Name,
         pool: Option<Name>,
     ) -> Result<Turned, AllocError>
-        ensures { IfOk result (λ t. seen_turn t (seen self.new) ≡ open_turn (seen self.old) session user pool) }
+        ensures { IfOk result (λ t. seen_turn t (seen_script self.new) ≡ open_turn (seen_script self.old) session user pool) }
     {
         if session_named(&self.names, session).is_some()
             || self.names.len() >= SESSIONS_MOST
@@ -174,7 +174,7 @@ impl Script {
         user: Name,
         pool: Option<Name>,
     ) -> Result<Turned, AllocError>
-        ensures { IfOk result (λ t. seen_turn t (seen self.new) ≡ opening_turn (seen self.old) session user pool) }
+        ensures { IfOk result (λ t. seen_turn t (seen_script self.new) ≡ opening_turn (seen_script self.old) session user pool) }
     {
         let reply = self.call(&Event::Open { user });
         match reply {
@@ -197,7 +197,7 @@ impl Script {
         number: u32,
         pool: Option<Name>,
     ) -> Result<Turned, AllocError>
-        ensures { IfOk result (λ t. seen_turn t (seen self.new) ≡ chosen_turn (seen self.old) session number pool) }
+        ensures { IfOk result (λ t. seen_turn t (seen_script self.new) ≡ chosen_turn (seen_script self.old) session number pool) }
     {
         let Some(pool) = pool else {
             return Ok(Turned::Goes(line_text(alloc, session, Reply::Opened(number))?));
@@ -211,7 +211,7 @@ impl Script {
 
     /// `set S pool POOL`
     fn set_pool(&mut self, alloc: Global, session: Name, pool: Name) -> Result<Turned, AllocError>
-        ensures { IfOk result (λ t. seen_turn t (seen self.new) ≡ set_pool_turn (seen self.old) session pool (session_named (seen self.old).names session)) }
+        ensures { IfOk result (λ t. seen_turn t (seen_script self.new) ≡ set_pool_turn (seen_script self.old) session pool (session_named (seen_script self.old).names session)) }
     {
         let Some(number) = session_named(&self.names, session) else {
             return Ok(Turned::Bad);
@@ -225,7 +225,7 @@ impl Script {
 
     /// `ask S FLOOR`
     fn ask(&mut self, alloc: Global, session: Name, floor: u64) -> Result<Turned, AllocError>
-        ensures { IfOk result (λ t. seen_turn t (seen self.new) ≡ ask_turn (seen self.old) session floor (session_named (seen self.old).names session)) }
+        ensures { IfOk result (λ t. seen_turn t (seen_script self.new) ≡ ask_turn (seen_script self.old) session floor (session_named (seen_script self.old).names session)) }
     {
         let Some(number) = session_named(&self.names, session) else {
             return Ok(Turned::Bad);
@@ -239,7 +239,7 @@ impl Script {
 
     /// `poll S`
     fn poll(&mut self, alloc: Global, session: Name) -> Result<Turned, AllocError>
-        ensures { IfOk result (λ t. seen_turn t (seen self.new) ≡ poll_turn (seen self.old) session (session_named (seen self.old).names session)) }
+        ensures { IfOk result (λ t. seen_turn t (seen_script self.new) ≡ poll_turn (seen_script self.old) session (session_named (seen_script self.old).names session)) }
     {
         let Some(number) = session_named(&self.names, session) else {
             return Ok(Turned::Bad);
@@ -249,8 +249,8 @@ impl Script {
     }
 
     /// `done S`
-    fn done(&mut self, alloc: Global, session: Name) -> Result<Turned, AllocError>
-        ensures { IfOk result (λ t. seen_turn t (seen self.new) ≡ done_turn (seen self.old) session (session_named (seen self.old).names session)) }
+    fn finish(&mut self, alloc: Global, session: Name) -> Result<Turned, AllocError>
+        ensures { IfOk result (λ t. seen_turn t (seen_script self.new) ≡ done_turn (seen_script self.old) session (session_named (seen_script self.old).names session)) }
     {
         let Some(number) = session_named(&self.names, session) else {
             return Ok(Turned::Bad);
@@ -262,8 +262,8 @@ impl Script {
     /// Makes a machine call at the script's moment.
     fn call(&mut self, event: &Event) -> Reply
         requires { IsFormed event.now }
-        ensures reply { result ≡ (step (seen self.old).machine 0 (seen self.old).moment event.now).reply }
-        ensures state { seen self.new ≡ record (seen self.old) { machine = (step (seen self.old).machine 0 (seen self.old).moment event.now).state } }
+        ensures reply { result ≡ (step (seen_script self.old).machine 0 (seen_script self.old).moment event.now).reply }
+        ensures state { seen_script self.new ≡ record (seen_script self.old) { machine = (step (seen_script self.old).machine 0 (seen_script self.old).moment event.now).state } }
     {
         self.desk.apply(SEAT, self.moment, event).reply
     }

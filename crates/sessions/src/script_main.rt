@@ -8,10 +8,10 @@ ghost use Rattle.sessions.specs.Options.{options_of};
 ghost use Rattle.sessions.specs.OptionsFacts.{AreWithin};
 ghost use Rattle.sessions.specs.Transfers.{ReadFront, IsTooLong, WroteFront};
 ghost use Rattle.sessions.specs.Script.{script, script_with, IsOneHistory};
-ghost use Rattle.sessions.specs.Scripts.{LinesEnded};
+ghost use Rattle.sessions.specs.Running.{LinesEnded};
 ghost use Rattle.sessions.specs.Ended.{Streams, EndsAs};
 
-use crate::ended::{Ended, LinesEnd, ended_as, input_end, status_of};
+use crate::ended::{Ended, LinesEnd, end_of_lines, end_of_input, status_of};
 use crate::input::read_input;
 use crate::options::{Options, options_of};
 use crate::run::run_lines;
@@ -61,8 +61,8 @@ fn run_script<S: Source, O: Sink>(
         EndsAs (Some options) streams result }
 {
     match read_input(alloc, input) {
-        Err(error) => return input_end(error),
-        Ok(bytes) => return ended_as(run_bytes(alloc, options, &bytes, out)),
+        Err(error) => return end_of_input(error),
+        Ok(bytes) => return end_of_lines(run_bytes(alloc, options, &bytes, out)),
     }
 }
 

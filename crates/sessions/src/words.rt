@@ -1,13 +1,13 @@
 //! The words of a line.
 
 ghost use Rattle.std.specs.Prelude.{◌≡◌, map, option_map, IfOk};
-ghost use Rattle.sessions.specs.Words.{has_outer_space, words, one_behind, two_behind, three_behind};
+ghost use Rattle.sessions.specs.Words.{has_outer_space, line_words, one_behind, two_behind, three_behind};
 
 use std::alloc::{AllocError, Global};
 
 /// The words of a line; none for a line that begins or ends with a space.
-pub fn words(alloc: Global, line: &str) -> Result<Vec<&str>, AllocError>
-    ensures { IfOk result (λ parts. map (λ part. part.now) parts.items ≡ words line.now) }
+pub fn line_words(alloc: Global, line: &str) -> Result<Vec<&str>, AllocError>
+    ensures { IfOk result (λ parts. map (λ part. part.now) parts.items ≡ line_words line.now) }
 {
     if has_outer_space(line) {
         return Ok(Vec::new(alloc));

@@ -1,12 +1,12 @@
 use Rattle.std.proofs.Common.{◌∙◌, ◌≤◌, arith, sym, ap, cond, None, length, le-leb}
 use Rattle.sessions.proofs.NumbersLemmas.{below-short}
 use Rattle.sessions.specs.declared.numbers.TheConstants.{DIGITS_MOST}
-use Rattle.sessions.specs.Numbers.{value_of}
+use Rattle.sessions.specs.Numbers.{numeral_of}
 use Rattle.sessions.proofs.numbers.number_of.Goals as goal
 
 pub returns : goal.returns
 returns c =
     let word = c.args.word.now in
     let short : length word ≤ DIGITS_MOST = omega arith in
-    c.value_of.ensures ∙ below-short word short
-    ∙ sym (ap (λ is_short. cond is_short (value_of word) None) (le-leb (length word) 15 short))
+    c.numeral_of.ensures ∙ below-short word short
+    ∙ sym (ap (λ is_short. cond is_short (numeral_of word) None) (le-leb (length word) 15 short))

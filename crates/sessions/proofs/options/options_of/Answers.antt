@@ -3,7 +3,7 @@ use Rattle.std.specs.Option.{IfSome}
 use Rattle.sessions.specs.declared.options.Options.{Options}
 use Rattle.sessions.specs.Options.{options_of}
 use Rattle.sessions.specs.OptionsFacts.{AreWithin}
-use Rattle.sessions.proofs.ScriptLaws.{options-within}
+use Rattle.sessions.proofs.OptionsLaws.{options-within}
 use Rattle.sessions.proofs.options.options_of.Goals as goal
 
 within : (words : List (List ℕ)) (o : Option Options) → o ≡ options_of words → IfSome o AreWithin

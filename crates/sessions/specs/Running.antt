@@ -4,7 +4,7 @@ use Rattle.std.specs.Io.KnownBytes.{Appends}
 use Rattle.rm_outside.specs.declared.outside.Outside.{Outside}
 use Rattle.rm_outside.specs.declared.outside.Outside.TheVariants as outside
 use Rattle.rm_outside.specs.Faults.{Rose}
-use Rattle.sessions.specs.declared.script.Script.{Script as Running}
+use Rattle.sessions.specs.declared.script.Script.{Script as Told}
 use Rattle.sessions.specs.declared.script.Turned.{Turned}
 use Rattle.sessions.specs.declared.script.Turned.TheVariants as turned
 use Rattle.sessions.specs.declared.ended.LinesEnd.{LinesEnd}
@@ -15,8 +15,8 @@ use Rattle.sessions.specs.Script.{ScriptState, Turn, Bad, Goes, ScriptEnd, turn_
 use Rattle.sessions.specs.Transfers.{WroteFront}
 
 -- what a running script is seen as
-abbrev pub seen : Running → ScriptState
-seen s = record { machine = s.desk.state; names = s.names.items; moment = s.moment }
+abbrev pub seen_script : Told → ScriptState
+seen_script s = record { machine = s.desk.state; names = s.names.items; moment = s.moment }
 
 -- a turn that was done, with the state that it left
 abbrev pub seen_turn : Turned → ScriptState → Turn

@@ -1,7 +1,7 @@
 use Rattle.std.proofs.Common.{◌∙◌, ◌≡◌, ◌==◌, false, slice_index, rules, eq-eqb}
 use Rattle.std.proofs.lemmas.Bool.{false≢true}
 use Rattle.sessions.proofs.NumbersLemmas.{parsed}
-use Rattle.sessions.proofs.numbers.value_of.Goals as goal
+use Rattle.sessions.proofs.numbers.numeral_of.Goals as goal
 
 pub returns : goal.returns
 returns c =
