@@ -2,4 +2,3 @@ pub mod Places
 pub mod Order
 pub mod Scan
 pub mod ByNumber
-pub mod Waits

@@ -1,5 +1,5 @@
 //! How long the pool of a waiting query lets it wait.
-ghost use Rattle.std.specs.Prelude.{◌≡◌, ◌-◌, ◌^◌, min, option_map, unwrap_or};
+ghost use Rattle.std.specs.Prelude.{◌≡◌, ◌+◌, nat_le, unwrap_or};
 ghost use Rattle.rm_rules.specs.Deadlines.{timeout_of, deadline_of, is_due, is_nowait};
 ghost use Rattle.rm_rules.specs.Sound.{IsSound};
 
@@ -15,30 +15,32 @@ fn timeout_of(definitions: &Definitions, w: &Waiter) -> Option<u64>
     pool_row(definitions, w.pool).queue_ms
 }
 
-/// When the query was queued, and its pool's QUEUETIMEOUT behind that. A sum beyond 64 bits is after every moment.
-fn deadline_of(definitions: &Definitions, w: &Waiter) -> Option<u64>
-    ensures { result ≡ option_map (λ deadline. min deadline (2 ^ 64 - 1)) (deadline_of definitions.now w.now) }
-{
-    match timeout_of(definitions, w) {
-        Some(timeout) => Some(w.queued.ms().saturating_add(timeout)),
-        None => None,
-    }
-}
-
-/// The query's deadline, in milliseconds. Where its pool has no QUEUETIMEOUT, it is when the query was queued.
+/// When the query was queued, and its pool's QUEUETIMEOUT behind that, in milliseconds. Where the pool has none, it is when
+/// the query was queued.
 pub fn deadline(definitions: &Definitions, w: &Waiter) -> u64
     requires { IsSound definitions.now }
     ensures { result ≡ unwrap_or (deadline_of definitions.now w.now) w.now.queued }
 {
-    deadline_of(definitions, w).unwrap_or(w.queued.ms())
+    let queued = w.queued.ms();
+    match pool_row(definitions, w.pool).queue_ms {
+        Some(timeout) => queued + timeout,
+        None => queued,
+    }
+}
+
+/// So long or longer is it from one moment to another.
+fn has_waited(queued: Moment, at: Moment, timeout: u64) -> bool
+    ensures { result ≡ nat_le (queued + timeout) at }
+{
+    queued.ms() <= at.ms() && timeout <= at.ms() - queued.ms()
 }
 
 /// The query's deadline is at this moment or before it.
 pub fn is_due(definitions: &Definitions, w: &Waiter, at: Moment) -> bool
     ensures { result ≡ is_due definitions.now at w.now }
 {
-    match deadline_of(definitions, w) {
-        Some(deadline) => deadline <= at.ms(),
+    match timeout_of(definitions, w) {
+        Some(timeout) => has_waited(w.queued, at, timeout),
         None => false,
     }
 }

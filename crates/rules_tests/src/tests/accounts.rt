@@ -2,7 +2,7 @@
 ghost use Rattle.std.specs.Prelude.{◌≡◌, ◌<◌, ◌≤◌, [], ◌∷◌, length, true, false, IfOk};
 ghost use Rattle.rm_base.specs.declared.limits.TheConstants.{SESSIONS_MOST};
 ghost use Rattle.rm_rules.specs.Sound.{IsSound};
-ghost use Rattle.accounts.specs.Accounts.{names_in, names_of, has_name, has_query, taken};
+ghost use Rattle.accounts.specs.Accounts.{names_in, has_name, has_query, taken};
 
 use accounts::Accounts;
 use rm_base::definitions::{Definitions, default_pool_row};
@@ -11,10 +11,8 @@ use rm_base::name::Name;
 use std::alloc::Global;
 use std::test::Fail;
 
-/// The budget of GENERAL's queries, and that of `etl`'s.
-pub const LARGE: u64 = 19_922_944;
-
-const SMALL: u64 = 10_485_760;
+/// 57 MiB, which leave GENERAL 3 of 60.
+pub const MOST: u64 = 59_768_832;
 
 /// GENERAL of 80 MiB on a machine of 100 MiB.
 fn alone(alloc: Global) -> Result<Definitions, Fail>
@@ -81,23 +79,25 @@ fn pays_back_what_is_borrowed(rt: HostRuntime) -> Result<(), Fail> {
     assert_eq!(rt; general_of(&accounts), [83_886_080, 0, 62_914_560]);
     assert_eq!(rt; accounts.actual(etl), 20_971_520);
     assert_eq!(rt; accounts.need(etl, 20_971_521), 1);
-    take(&mut accounts, 1, etl, SMALL)?;
-    take(&mut accounts, 2, etl, SMALL)?;
-    take(&mut accounts, 3, etl, SMALL)?;
-    assert_eq!(rt; general_of(&accounts), [83_886_080, SMALL, 52_428_800]);
-    assert_eq!(rt; accounts.account_of(2), account(etl, SMALL, 0));
-    assert_eq!(rt; accounts.account_of(3), account(etl, 0, SMALL));
-    assert_eq!(rt; accounts.give_back(1), SMALL);
+    take(&mut accounts, 1, etl, 31_457_280)?;
+    take(&mut accounts, 2, etl, 10_485_760)?;
+    assert_eq!(rt; general_of(&accounts), [83_886_080, 20_971_520, 41_943_040]);
+    assert_eq!(rt;
+        accounts.account_of(1),
+        account(etl, 20_971_520, 10_485_760)
+    );
+    assert_eq!(rt; accounts.account_of(2), account(etl, 0, 10_485_760));
+    assert_eq!(rt; accounts.give_back(1), 31_457_280);
     assert_eq!(rt; general_of(&accounts), [83_886_080, 0, 62_914_560]);
-    assert_eq!(rt; accounts.account_of(3), account(etl, SMALL, 0));
+    assert_eq!(rt; accounts.account_of(2), account(etl, 10_485_760, 0));
     assert_eq!(rt; accounts.account_of(1), account(Name::general(), 0, 0));
     assert_eq!(rt; accounts.give_back(1), 0);
     assert_eq!(rt;
         (accounts.used(etl), accounts.running(etl)),
-        (20_971_520, 2)
+        (10_485_760, 1)
     );
-    if accounts.count() == 2 {
-        assert_eq!(rt; (accounts.query_at(0), accounts.query_at(1)), (2, 3));
+    if accounts.count() == 1 {
+        assert_eq!(rt; accounts.query_at(0), 2);
     }
     Ok(())
 }
@@ -109,27 +109,17 @@ fn grows_by_what_is_free(rt: HostRuntime) -> Result<(), Fail> {
     let before = alone(rt.alloc())?;
     let beside_r = beside(rt.alloc(), r, 31_457_280)?;
     let mut accounts = Accounts::new(rt.alloc(), &before)?;
-    take_three(&mut accounts)?;
+    take(&mut accounts, 1, Name::general(), MOST)?;
     accounts.add_pool(r);
     for e in accounts.reserves() {
         assert_eq!(rt; e.size, 0);
     }
     accounts.shuffle(&beside_r);
     assert_eq!(rt; accounts.actual(r), 24_117_248);
-    assert_eq!(rt; general_of(&accounts), [83_886_080, 59_768_832, 0]);
-    assert_eq!(rt; accounts.give_back(1), LARGE);
+    assert_eq!(rt; general_of(&accounts), [83_886_080, MOST, 0]);
+    assert_eq!(rt; accounts.give_back(1), MOST);
     accounts.shuffle(&beside_r);
     assert_eq!(rt; accounts.actual(r), 31_457_280);
-    assert_eq!(rt; general_of(&accounts), [83_886_080, 39_845_888, 12_582_912]);
+    assert_eq!(rt; general_of(&accounts), [83_886_080, 0, 52_428_800]);
     Ok(())
-}
-
-/// Three queries begin to run in GENERAL.
-pub fn take_three(accounts: &mut Accounts) -> Result<(), Fail>
-    requires { accounts.old.grants ≡ [] }
-    ensures { IfOk result (λ _. names_of accounts.new.reserves ≡ names_of accounts.old.reserves) }
-{
-    take(accounts, 1, Name::general(), LARGE)?;
-    take(accounts, 2, Name::general(), LARGE)?;
-    take(accounts, 3, Name::general(), LARGE)
 }

@@ -5,7 +5,7 @@ ghost use Rattle.rm_rules.specs.Definitions.{pool_row};
 ghost use Rattle.rm_rules.specs.Sound.{IsSound};
 ghost use Rattle.pool_queue.specs.Queue.{are_pools_known, is_large};
 
-use super::accounts::take_three;
+use super::accounts::{MOST, take};
 use super::defined::named;
 use accounts::Accounts;
 use budgets::{asked, cap, least_cap, threshold};
@@ -212,8 +212,8 @@ fn modest(name: Name, priority: i32) -> PoolRow {
     }
 }
 
-/// GENERAL of 80 MiB, `etl` that has 20 of them, `web` before all others, and `low` and `late` behind them. Three queries
-/// run in GENERAL, which has 3 MiB left.
+/// GENERAL of 80 MiB, `etl` that has 20 of them, `web` before all others, and `low` and `late` behind them. A query runs
+/// in GENERAL, which has 3 MiB left.
 fn small_host(rt: &impl Abort, alloc: Global) -> Result<Host, Fail> {
     let mut general = default_pool_row(Name::general());
     general.max = Some(83_886_080);
@@ -229,7 +229,7 @@ fn small_host(rt: &impl Abort, alloc: Global) -> Result<Host, Fail> {
     definitions.pools.add(modest(named("late")?, -1));
     assert!(rt; sound(&definitions));
     let mut accounts = Accounts::new(alloc, &definitions)?;
-    take_three(&mut accounts)?;
+    take(&mut accounts, 1, Name::general(), MOST)?;
     Ok(Host {
         definitions,
         accounts,
