@@ -69,7 +69,12 @@ impl Script {
     }
 
     /// Does what a line says, the line's number being counted from 1.
-    pub fn take_line(&mut self, alloc: Global, number: u64, line: &[u8]) -> Result<Turned, AllocError>
+    pub fn take_line(
+        &mut self,
+        alloc: Global,
+        number: u64,
+        line: &[u8],
+    ) -> Result<Turned, AllocError>
         ensures turn { IfOk result (λ t. seen_turn t (seen_script self.new) ≡ line_turn number (seen_script self.old) line.now) }
         ensures early { IfOk result (IsEarly number) }
     {

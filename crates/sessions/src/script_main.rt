@@ -11,7 +11,7 @@ ghost use Rattle.sessions.specs.Script.{script, script_with, IsOneHistory};
 ghost use Rattle.sessions.specs.Running.{LinesEnded};
 ghost use Rattle.sessions.specs.Ended.{Streams, EndsAs};
 
-use crate::ended::{Ended, LinesEnd, end_of_lines, end_of_input, status_of};
+use crate::ended::{Ended, LinesEnd, end_of_input, end_of_lines, status_of};
 use crate::input::read_input;
 use crate::options::{Options, options_of};
 use crate::run::run_lines;
