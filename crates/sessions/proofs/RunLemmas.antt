@@ -12,7 +12,7 @@ use Rattle.sessions.specs.declared.ended.LinesEnd.{LinesEnd}
 use Rattle.sessions.specs.declared.ended.LinesEnd.TheVariants as end
 use Rattle.sessions.specs.declared.input.InputError.{InputError}
 use Rattle.sessions.specs.declared.input.InputError.TheVariants as input
-use Rattle.sessions.specs.declared.names.TheConstants.{LINES_MOST}
+use Rattle.rm_base.specs.declared.limits.TheConstants.{LINES_MOST}
 use Rattle.sessions.specs.declared.options.Options.{Options}
 use Rattle.sessions.specs.declared.status.TheConstants.{BAD_LINE, TOO_LONG}
 use Rattle.sessions.specs.Ended.{Streams, end_of_lines, end_of_input, EndsAs}

@@ -1,7 +1,7 @@
--- A script's journal is one legal history of the machine, and the quantity is conserved after each of its entries.
+-- A script's journal is one legal history of the machine, and each of its entries keeps the bytes.
 use Rattle.std.proofs.Common.{◌≡◌, ℕ, ◌+◌, Bool, true, false, cond, ltb, List, [], ◌∷◌, length, Option, Some, None, Result, Ok, Err, refl, sym, subst}
 use Rattle.pool_sql.specs.Reading.{read_of}
-use Rattle.pool_sql.proofs.Texts.{read_of-in_range}
+use Rattle.pool_sql.proofs.Texts.{read_of-spells, spells-well_formed}
 use Rattle.rm_base.specs.declared.definitions.Definitions.{Definitions}
 use Rattle.rm_base.specs.declared.entry.Entry.{Entry}
 use Rattle.rm_base.specs.declared.event.Event.{Event}
@@ -15,12 +15,14 @@ use Rattle.rm_base.specs.declared.reply.Reply.{Reply}
 use Rattle.rm_base.specs.declared.reply.Reply.TheVariants as reply
 use Rattle.rm_base.specs.declared.statement.Statement.{Statement}
 use Rattle.rm_base.specs.Definitions.{fresh}
-use Rattle.rm_base.specs.Ranges.{is_statement_in_range}
+use Rattle.rm_base.specs.WellFormed.{IsWellFormed}
 use Rattle.rm_rules.specs.State.{State}
-use Rattle.rm_rules.specs.Acceptance.{accepted, is_pool_statement}
-use Rattle.rm_rules.specs.Step.{step, replay, IsFormed, IsLegal}
+use Rattle.rm_rules.specs.Acceptance.{accepted, is_judged}
+use Rattle.rm_rules.specs.Step.{step}
+use Rattle.rm_rules.specs.Replay.{replay, IsFormed, IsLegal}
 use Rattle.rm_rules.specs.Conserved.{ConservedAfterEach}
-use Rattle.rm_rules.proofs.Laws.{legal-step, replay-step, conserved-after-each, fresh-sound}
+use Rattle.rm_rules.proofs.Laws.{legal-step, replay-step, conserved-after-each, fresh-sound, healthy-start}
+use Rattle.rm_rules.proofs.Histories.{bytes-from}
 use Rattle.sessions.specs.declared.options.Options.{Options}
 use Rattle.sessions.specs.Commands.{Command, At, Sql, Open, SetPool, Ask, Poll, Done, command_of}
 use Rattle.sessions.specs.Options.{options_of}
@@ -48,15 +50,15 @@ judged : (P : State → Type 0) → IsKeptByCalls P → (s : ScriptState) (state
 judged P each s statement formed (Err refusal) h = h
 judged P each s statement formed (Ok d) h = each s.machine s.moment (event.Define statement) formed h
 
-states : (P : State → Type 0) → IsKeptByCalls P → (s : ScriptState) (statement : Statement) → is_statement_in_range statement ≡ true → (b : Bool) → is_pool_statement statement ≡ b
+states : (P : State → Type 0) → IsKeptByCalls P → (s : ScriptState) (statement : Statement) → IsWellFormed statement → (b : Bool) → is_judged statement ≡ b
     → P s.machine → OnGoes P (cond b (judged_turn s statement (accepted s.machine.definitions statement)) Bad)
 states P each s statement ranged true is h = judged P each s statement (is, ranged) (accepted s.machine.definitions statement) h
 states P each s statement ranged false is h = tt
 
-reads : (P : State → Type 0) → IsKeptByCalls P → (s : ScriptState) (r : Result Statement Refusal) → ((statement : Statement) → r ≡ Ok statement → is_statement_in_range statement ≡ true)
+reads : (P : State → Type 0) → IsKeptByCalls P → (s : ScriptState) (r : Result Statement Refusal) → ((statement : Statement) → r ≡ Ok statement → IsWellFormed statement)
     → P s.machine → OnGoes P (read_turn s r)
 reads P each s (Err refusal) ranged h = h
-reads P each s (Ok statement) ranged h = states P each s statement (ranged statement refl) (is_pool_statement statement) refl h
+reads P each s (Ok statement) ranged h = states P each s statement (ranged statement refl) (is_judged statement) refl h
 
 chooses : (P : State → Type 0) → IsKeptByCalls P → (s : ScriptState) (session : Name) (number : ℕ) (pool : Option Name) → P s.machine → OnGoes P (chosen_turn s session number pool)
 chooses P each s session number None h = h
@@ -89,7 +91,7 @@ ends P each s session (Some n) h = each s.machine s.moment (event.Finish n) tt h
 
 turn_keeps : (P : State → Type 0) → IsKeptByCalls P → (s : ScriptState) (c : Command) → P s.machine → OnGoes P (turn s c)
 turn_keeps P each s (At moment) h = bad_or P _ (Goes [] (record s { moment = moment })) h
-turn_keeps P each s (Sql text) h = reads P each s (read_of text) (read_of-in_range text) h
+turn_keeps P each s (Sql text) h = reads P each s (read_of text) (λ st is. spells-well_formed text st ((read_of-spells text st).0 is)) h
 turn_keeps P each s (Open session user pool) h = bad_or P _ (opening_turn s session user pool) (opens P each s session user pool h)
 turn_keeps P each s (SetPool session pool) h = sets_pool P each s session pool (session_named s.names session) h
 turn_keeps P each s (Ask session floor) h = asks P each s session floor (session_named s.names session) h
@@ -151,5 +153,6 @@ one_history words bytes o h =
     let is : IsOneHistory o (script_with (Some o) bytes) = record {
       legal = legal o bytes;
       conserved = conserved-after-each d SCRIPT_ROOM entries sound (legal o bytes);
+      kept = bytes-from (script_start o) entries (legal o bytes) (healthy-start d SCRIPT_ROOM sound);
     } in
     subst (λ (q : Option Options). IsOneHistory o (script_with q bytes)) (sym h) is

@@ -2,7 +2,7 @@
 use Rattle.std.specs.Prelude.{ℕ, ◌+◌, Bool, ◌&&◌, if◌then◌else◌, nat_lt, nat_le, List, length, Option, Some, None}
 use Rattle.std.specs.Str.{all_ascii_digits}
 use Rattle.std.specs.Str.Parse.{digits_value}
-use Rattle.sessions.specs.declared.numbers.TheConstants.{DIGITS_MOST}
+use Rattle.rm_base.specs.declared.limits.TheConstants.{DIGITS_MOST}
 
 -- one digit or more, and nothing else
 abbrev pub is_numeral : List ℕ → Bool

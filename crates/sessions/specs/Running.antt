@@ -9,7 +9,7 @@ use Rattle.sessions.specs.declared.script.Turned.{Turned}
 use Rattle.sessions.specs.declared.script.Turned.TheVariants as turned
 use Rattle.sessions.specs.declared.ended.LinesEnd.{LinesEnd}
 use Rattle.sessions.specs.declared.ended.LinesEnd.TheVariants as lines_end
-use Rattle.sessions.specs.declared.names.TheConstants.{LINES_MOST}
+use Rattle.rm_base.specs.declared.limits.TheConstants.{LINES_MOST}
 use Rattle.sessions.specs.declared.status.TheConstants.{DONE, BAD_LINE}
 use Rattle.sessions.specs.Script.{ScriptState, Turn, Bad, Goes, ScriptEnd, turn_end, line_turn}
 use Rattle.sessions.specs.Transfers.{WroteFront}

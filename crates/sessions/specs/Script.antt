@@ -14,12 +14,14 @@ use Rattle.rm_base.specs.declared.statement.Statement.{Statement}
 use Rattle.rm_base.specs.Name.{same_name, dbadmin}
 use Rattle.rm_base.specs.Definitions.{fresh}
 use Rattle.pool_sql.specs.Reading.{read_of}
-use Rattle.rm_rules.specs.Acceptance.{accepted, is_pool_statement}
+use Rattle.rm_rules.specs.Acceptance.{accepted, is_judged}
 use Rattle.rm_rules.specs.State.{State, start}
-use Rattle.rm_rules.specs.Step.{step, IsLegal}
+use Rattle.rm_rules.specs.Step.{step}
+use Rattle.rm_rules.specs.Replay.{IsLegal}
 use Rattle.rm_rules.specs.Conserved.{ConservedAfterEach}
+use Rattle.rm_rules.specs.Grants.{BytesAreKept}
 use Rattle.sessions.specs.declared.names.Named.{Named}
-use Rattle.sessions.specs.declared.names.TheConstants.{LINES_MOST}
+use Rattle.rm_base.specs.declared.limits.TheConstants.{LINES_MOST}
 use Rattle.sessions.specs.declared.options.Options.{Options}
 use Rattle.sessions.specs.declared.status.TheConstants.{DONE, USAGE, BAD_LINE, TOO_LONG}
 use Rattle.sessions.specs.Commands.{Command, At, Sql, Open, SetPool, Ask, Poll, Done, command_of}
@@ -57,7 +59,7 @@ judged_turn s statement (Ok definitions) = called s (event.Define statement) bar
 -- a statement that was read: other statements than those on pools are bad lines
 abbrev pub statement_turn : ScriptState → Statement → Turn
 statement_turn s statement =
-    if is_pool_statement statement then judged_turn s statement (accepted s.machine.definitions statement) else Bad
+    if is_judged statement then judged_turn s statement (accepted s.machine.definitions statement) else Bad
 
 -- `sql TEXT`, by what TEXT is read as
 abbrev pub read_turn : ScriptState → Result Statement Refusal → Turn
@@ -183,7 +185,10 @@ script_with (Some options) bytes =
 abbrev pub script : List (List ℕ) → List ℕ → ScriptEnd
 script words bytes = script_with (options_of words) bytes
 
--- a script's journal is one legal history of the machine, and the quantity is conserved after each of its entries
+-- a script's journal is one legal history of the machine; the quantity is conserved at its start and after each of its
+-- entries; and no entry takes or changes a grant that it does not release, raises the memory in force but with the
+-- total, or admits a query past its pool's cap
 pub record IsOneHistory (options : Options) (end : ScriptEnd) : Type 0 where
   pub legal : IsLegal (script_start options) end.journal
   pub conserved : ConservedAfterEach (script_start options) end.journal
+  pub kept : BytesAreKept (script_start options) end.journal

@@ -3,7 +3,7 @@
 ghost use Rattle.std.specs.Prelude.{◌≤◌, IfOk, IfErr};
 ghost use Rattle.sessions.specs.Transfers.{ReadFront, IsWholeInput, ExplainsInput};
 
-use rm_base::limits::SCRIPT_MOST;
+use rm_base::limits::{PIECE_MOST, SCRIPT_MOST};
 use rm_outside::outside::Outside;
 use rm_outside::source::Source;
 use std::alloc::{AllocError, Global};
@@ -41,9 +41,6 @@ impl From<AllocError> for InputError {
     }
 }
 
-/// How many bytes are asked for at a time.
-const PIECE: usize = 16_384;
-
 /// Reads a script to its end, or up to one byte more than a script may have.
 pub fn read_input<S: Source>(alloc: Global, input: &mut S) -> Result<Vec<u8>, InputError>
     ensures later { S.faults input.old ≤ S.faults input.new }
@@ -52,9 +49,9 @@ pub fn read_input<S: Source>(alloc: Global, input: &mut S) -> Result<Vec<u8>, In
     ensures err { IfErr result (ExplainsInput (S.left input.old) (S.left input.new) (S.faults input.old) (S.faults input.new)) }
 {
     let mut bytes = Vec::new(alloc);
-    let mut piece = [0; PIECE];
+    let mut piece = [0; PIECE_MOST];
     while bytes.len() <= SCRIPT_MOST {
-        let most = PIECE.min(SCRIPT_MOST + 1 - bytes.len());
+        let most = PIECE_MOST.min(SCRIPT_MOST + 1 - bytes.len());
         let count = input.read(&mut piece[..most])?;
         if count == 0 {
             return Ok(bytes);

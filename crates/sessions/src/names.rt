@@ -5,9 +5,6 @@ ghost use Rattle.sessions.specs.SessionNames.{session_named};
 
 use rm_base::name::Name;
 
-/// How many lines a script may have.
-pub const LINES_MOST: u64 = 4_096;
-
 /// A session, by the script's name for it.
 #[derive(Clone, Copy, Debug, PartialEq, Eq)]
 pub struct Named {

@@ -1,11 +1,10 @@
 //! Numbers that are written in decimal digits alone.
 
 ghost use Rattle.std.specs.Prelude.{◌≡◌, ◌^◌, ◌<◌, option_map};
-ghost use Rattle.sessions.specs.declared.numbers.TheConstants.{DIGITS_MOST};
+ghost use Rattle.rm_base.specs.declared.limits.TheConstants.{DIGITS_MOST};
 ghost use Rattle.sessions.specs.Numbers.{numeral_of, below, number_of, floor_of};
 
-/// How many digits a number of a script has at most.
-pub const DIGITS_MOST: usize = 15;
+use rm_base::limits::DIGITS_MOST;
 
 /// A number of a script, as a type that knows how many digits it has at most. So it is a moment.
 #[derive(Clone, Copy, PartialEq, Eq, Debug)]

@@ -2,7 +2,7 @@
 
 ghost use Rattle.std.specs.Prelude.{◌≡◌, IfOk};
 ghost use Rattle.rm_base.specs.declared.reply.Reply.TheVariants as reply;
-ghost use Rattle.rm_rules.specs.Acceptance.{is_pool_statement};
+ghost use Rattle.rm_rules.specs.Acceptance.{is_judged};
 ghost use Rattle.sessions.specs.Script.{ScriptState, Goes};
 ghost use Rattle.sessions.specs.Running.{seen_turn};
 ghost use Rattle.sessions.specs.Texts.{bare_text};
@@ -10,7 +10,7 @@ ghost use Rattle.sessions.specs.Texts.{bare_text};
 use crate::command::{Command, read_command};
 use crate::comments::is_comment;
 use crate::lines::readable;
-use crate::names::{LINES_MOST, Named, session_named};
+use crate::names::{Named, session_named};
 use crate::numbers::Number;
 use crate::options::Options;
 use crate::texts::{bare_text, chosen_text, line_text, queued_text};
@@ -19,7 +19,7 @@ use pool_sql::reading::{ReadError, read_statement};
 use pool_table::accept;
 use rm_base::definitions::Definitions;
 use rm_base::event::Event;
-use rm_base::limits::{SCRIPT_ROOM, SESSIONS_MOST};
+use rm_base::limits::{LINES_MOST, SCRIPT_ROOM, SESSIONS_MOST};
 use rm_base::moment::Moment;
 use rm_base::name::Name;
 use rm_base::refusal::Refusal;
@@ -48,7 +48,9 @@ const SEAT: u32 = 0;
 impl Script {
     ghost use Rattle.std.specs.Prelude.{◌≡◌, true, [], IfOk};
     ghost use Rattle.rm_base.specs.Ranges.{is_statement_in_range};
-    ghost use Rattle.rm_rules.specs.Step.{step, IsFormed};
+    ghost use Rattle.rm_base.specs.WellFormed.{IsWellFormed};
+    ghost use Rattle.rm_rules.specs.Step.{step};
+    ghost use Rattle.rm_rules.specs.Replay.{IsFormed};
     ghost use Rattle.sessions.specs.Commands.{seen_command};
     ghost use Rattle.sessions.specs.OptionsFacts.{AreWithin};
     ghost use Rattle.sessions.specs.Script.{first_state, line_turn, turn, at_turn, sql_turn, statement_turn, open_turn, opening_turn, chosen_turn, set_pool_turn, ask_turn, poll_turn, done_turn};
@@ -137,10 +139,11 @@ impl Script {
 
     /// A statement that was read. It changes nothing unless it is accepted.
     fn take_statement(&mut self, alloc: Global, statement: &Statement) -> Result<Turned, AllocError>
-        requires { is_statement_in_range statement.now ≡ true }
+        requires well_formed { IsWellFormed statement.now }
+        requires in_range { is_statement_in_range statement.now ≡ true }
         ensures { IfOk result (λ t. seen_turn t (seen_script self.new) ≡ statement_turn (seen_script self.old) statement.now) }
     {
-        if !is_pool_statement(statement) {
+        if !is_judged(statement) {
             return Ok(Turned::Bad);
         }
         match accept(self.desk.definitions(), statement) {
@@ -282,11 +285,21 @@ fn refused(alloc: Global, refusal: Refusal) -> Result<Turned, AllocError>
 }
 
 /// Whether a statement creates or alters a pool. Other statements have no place in a script yet.
-fn is_pool_statement(statement: &Statement) -> bool
-    ensures { result ≡ is_pool_statement statement.now }
+fn is_judged(statement: &Statement) -> bool
+    ensures { result ≡ is_judged statement.now }
 {
-    matches!(
-        statement,
-        Statement::CreatePool(..) | Statement::AlterPool(..)
-    )
+    match statement {
+        Statement::CreatePool(..) | Statement::AlterPool(..) => true,
+        Statement::DropPool(_)
+        | Statement::CreateUser(..)
+        | Statement::AlterUser(..)
+        | Statement::DropUser(_)
+        | Statement::CreateRole(_)
+        | Statement::AlterRole(..)
+        | Statement::DropRole(_)
+        | Statement::GrantUsage(..)
+        | Statement::RevokeUsage(..)
+        | Statement::GrantRole(..)
+        | Statement::RevokeRole(..) => false,
+    }
 }

@@ -1,6 +1,6 @@
 use Rattle.std.proofs.Common.{◌∙◌, ◌≤◌, arith, sym, ap, cond, None, length, le-leb}
 use Rattle.sessions.proofs.NumbersLemmas.{below-short}
-use Rattle.sessions.specs.declared.numbers.TheConstants.{DIGITS_MOST}
+use Rattle.rm_base.specs.declared.limits.TheConstants.{DIGITS_MOST}
 use Rattle.sessions.specs.Numbers.{numeral_of}
 use Rattle.sessions.proofs.numbers.number_of.Goals as goal
 
