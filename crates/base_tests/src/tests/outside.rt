@@ -98,10 +98,16 @@ fn spool_gives_back_what_was_appended(rt: HostRuntime) -> Result<(), Fail> {
 #[test]
 fn keeper_loads_what_was_committed(rt: HostRuntime) -> Result<(), Fail> {
     let mut keeper = MemoryKeeper::new();
-    let mut next = keeper.load(rt.alloc(), 1_073_741_824, 4).ok().ok_or("no memory")?;
+    let mut next = keeper
+        .load(rt.alloc(), 1_073_741_824, 4)
+        .ok()
+        .ok_or("no memory")?;
     next.changes = 7;
     keeper.commit(rt.alloc(), &next).ok().ok_or("no memory")?;
-    let loaded = keeper.load(rt.alloc(), 2_147_483_648, 8).ok().ok_or("no memory")?;
+    let loaded = keeper
+        .load(rt.alloc(), 2_147_483_648, 8)
+        .ok()
+        .ok_or("no memory")?;
     assert_eq!(rt; loaded.memory, 2_147_483_648);
     assert_eq!(rt; loaded.cores, 8);
     assert_eq!(rt; loaded.changes, 0);
