@@ -123,11 +123,14 @@ abbrev pub on_negative : Statement → Result ℤ Stop → Stepped
 on_negative st (Ok n) = Ok (Part true (set st (setting.Priority n)))
 on_negative st (Err why) = Err why
 
+-- the first words of the statements on grants
+abbrev pub giving_edges : List Edge
+giving_edges = (codes "GRANT", Given giving.Grant) ∷ (codes "REVOKE", Given giving.Revoke) ∷ []
+
 -- which key words may come next, and where each leads
 abbrev pub edges : Progress → List Edge
 edges Start =
-    (codes "CREATE", Verbed verb.Create) ∷ (codes "ALTER", Verbed verb.Alter) ∷ (codes "DROP", Verbed verb.Drop)
-    ∷ (codes "GRANT", Given giving.Grant) ∷ (codes "REVOKE", Given giving.Revoke) ∷ []
+    (codes "CREATE", Verbed verb.Create) ∷ (codes "ALTER", Verbed verb.Alter) ∷ (codes "DROP", Verbed verb.Drop) ∷ giving_edges
 edges (Verbed v) =
     (codes "RESOURCE", OfResource v) ∷ (codes "USER", NameDue v kind.User) ∷ (codes "ROLE", NameDue v kind.Role) ∷ []
 edges (OfResource v) = (codes "POOL", NameDue v kind.Pool) ∷ []

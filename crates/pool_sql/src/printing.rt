@@ -43,12 +43,12 @@ fn keys_text(parameter: Parameter) -> &'static str
     }
 }
 
-fn print_setting(alloc: Global, setting: Setting) -> Result<String, AllocError>
-    ensures { IfOk result (λ text. string_bytes text ≡ setting_text setting) }
+fn push_setting(alloc: Global, text: &mut String, setting: Setting) -> Result<(), AllocError>
+    ensures { OnOk result (string_bytes text.new ≡ string_bytes text.old ++ setting_text setting) }
 {
     let keys = keys_text(parameter_named(setting));
     let value = value_in(setting);
-    format!(in alloc; " {keys} {value}")
+    text.push_str(format!(in alloc; " {keys} {value}")?.as_str())
 }
 
 fn push_settings(
@@ -60,7 +60,7 @@ fn push_settings(
 {
     for setting in settings {
         if let Some(setting) = setting {
-            text.push_str(print_setting(alloc, *setting)?.as_str())?;
+            push_setting(alloc, text, *setting)?;
         }
     }
     Ok(())

@@ -2,7 +2,7 @@ ghost use Rattle.std.specs.Prelude.{◌≡◌, [], ◌∷◌};
 ghost use Rattle.rm_words.specs.Token.{seen};
 ghost use Rattle.pool_sql.specs.Parameter.{parameter_of};
 ghost use Rattle.pool_sql.specs.Value.{negative_of, optional_name, value_of};
-ghost use Rattle.pool_sql.specs.Machine.{begun, finish, is_minus, is_semicolon, keyed, on_given, on_key, on_negative, on_other, on_parameter, on_role_pool, on_value, role_given, step, stranger, to_key, usage_given};
+ghost use Rattle.pool_sql.specs.Machine.{begun, finish, giving_edges, is_minus, is_semicolon, keyed, on_given, on_key, on_negative, on_other, on_parameter, on_role_pool, on_value, role_given, step, stranger, to_key, usage_given};
 
 use crate::names::{name_of, usage_name};
 use crate::parameter::{is_affinity, parameter_of, takes_any};
@@ -152,7 +152,15 @@ fn on_start(token: &Token) -> Result<Progress, Stop>
         Ok(Progress::Verbed(Verb::Alter))
     } else if token.is_key(b"DROP") {
         Ok(Progress::Verbed(Verb::Drop))
-    } else if token.is_key(b"GRANT") {
+    } else {
+        on_giving(token)
+    }
+}
+
+fn on_giving(token: &Token) -> Result<Progress, Stop>
+    ensures { result ≡ on_key giving_edges (seen token.now) }
+{
+    if token.is_key(b"GRANT") {
         Ok(Progress::Given(Giving::Grant))
     } else if token.is_key(b"REVOKE") {
         Ok(Progress::Given(Giving::Revoke))

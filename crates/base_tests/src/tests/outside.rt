@@ -97,18 +97,20 @@ fn spool_gives_back_what_was_appended(rt: HostRuntime) -> Result<(), Fail> {
 
 #[test]
 fn keeper_loads_what_was_committed(rt: HostRuntime) -> Result<(), Fail> {
-    let alloc = rt.alloc();
     let mut keeper = MemoryKeeper::new();
-    let Ok(mut definitions) = keeper.load(alloc, 1_073_741_824, 4) else {
-        return Err("no fresh definitions")?;
-    };
-    definitions.changes = 7;
-    let committed = keeper.commit(alloc, &definitions);
-    let Ok(loaded) = keeper.load(alloc, 2_147_483_648, 8) else {
-        return Err("no definitions")?;
-    };
-    let numbers = (loaded.memory, loaded.cores, loaded.changes);
-    assert!(rt; (committed, numbers) == (Ok(()), (2_147_483_648, 8, 0)));
-    assert!(rt; loaded.pools.rows() == definitions.pools.rows());
+    let mut next = keeper
+        .load(rt.alloc(), 1_073_741_824, 4)
+        .ok()
+        .ok_or("no memory")?;
+    next.changes = 7;
+    keeper.commit(rt.alloc(), &next).ok().ok_or("no memory")?;
+    let loaded = keeper
+        .load(rt.alloc(), 2_147_483_648, 8)
+        .ok()
+        .ok_or("no memory")?;
+    assert_eq!(rt; loaded.memory, 2_147_483_648);
+    assert_eq!(rt; loaded.cores, 8);
+    assert_eq!(rt; loaded.changes, 0);
+    assert!(rt; loaded.pools.rows() == next.pools.rows());
     Ok(())
 }
