@@ -1,6 +1,5 @@
-mod accounts;
 mod asks;
 mod defined;
-mod queue;
+mod desk;
 mod soundness;
 mod users;
