@@ -1,5 +1,4 @@
 mod asks;
 mod defined;
-mod desk;
 mod soundness;
 mod users;
