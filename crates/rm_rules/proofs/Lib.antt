@@ -23,6 +23,7 @@ pub mod Admitting
 pub mod Ending
 pub mod Settling
 pub mod Changing
+pub mod Closing
 pub mod Keeping
 pub mod Answering
 pub mod Stepping
