@@ -1,11 +1,11 @@
 -- What is found in lists that are put together, of which something is taken, or of which one item alone passes.
-use Rattle.std.proofs.Common.{◌≡◌, ℕ, ◌≤◌, Bool, true, false, cond, List, [], ◌∷◌, ◌++◌, Some, None, ◌⊎◌, inl, inr, refl, sym, ap, ◌∙◌, subst, arith, count_by}
+use Rattle.std.proofs.Common.{◌≡◌, ℕ, ◌≤◌, Bool, true, false, cond, List, [], ◌∷◌, ◌++◌, Some, None, Option, ◌⊎◌, inl, inr, refl, sym, ap, ◌∙◌, subst, arith, count_by}
 use Rattle.std.specs.Option.{is_some}
 use Rattle.std.specs.List.{find}
 use Rattle.std.proofs.lemmas.Bool.{false≢true}
 use Rattle.std.proofs.lemmas.List.Sums.{sum_by-cons}
 use Rattle.rm_rules.specs.State.{without}
-use Rattle.rm_rules.proofs.Taken.{found_counted, found_single}
+use Rattle.rm_rules.proofs.Taken.{found_passes, found_counted, found_single, sum_without}
 
 -- what is not found in front is found behind
 behind-turn : {A : Type 0} (test : A → Bool) (x y : A) (xs ys : List A) (b : Bool) → cond b (Some x) (find test xs) ≡ None → cond b (Some x) (find test (xs ++ ys)) ≡ Some y
@@ -98,6 +98,16 @@ none-turn test x xs false e none rest = rest (omega (arith, none, sum_by-cons (�
 pub none-counted : {A : Type 0} (test : A → Bool) (xs : List A) → count_by test xs ≡ 0 → find test xs ≡ None
 none-counted test [] none = refl
 none-counted test (x ∷ xs) none = none-turn test x xs (test x) refl none (none-counted test xs)
+
+-- where one passes at most, none is found once it is taken out
+lone-turn : {A : Type 0} (test : A → Bool) (xs : List A) (o : Option A) → find test xs ≡ o → count_by test xs ≤ 1 → find test (without test xs) ≡ None
+lone-turn test xs None absent few = ap (find test) (without-unfound test xs absent) ∙ absent
+lone-turn test xs (Some y) found few =
+    let one : cond {A = ℕ} (test y) 1 0 ≡ 1 = ap {B = ℕ} (λ b. cond b 1 0) (found_passes test y xs found) in
+    none-counted test (without test xs) (omega (arith, few, one, sum_without (λ z. cond (test z) 1 0) test y xs found))
+
+pub none-left : {A : Type 0} (test : A → Bool) (xs : List A) → count_by test xs ≤ 1 → find test (without test xs) ≡ None
+none-left test xs few = lone-turn test xs (find test xs) refl few
 
 -- so where one passes or none, one is found or none
 pub is_some-find : {A : Type 0} (test : A → Bool) (xs : List A) (b : Bool) → count_by test xs ≡ cond b 1 0 → is_some (find test xs) ≡ b

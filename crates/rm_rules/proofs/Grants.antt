@@ -166,7 +166,7 @@ turned-submitted s c event y running waiting next =
       turn w (inr new) = inr (subst (WasSubmitted s event) (sym new) next)
 
 -- a running query is what its number finds
-runner-number : (s : State) (n : ℕ) (r : Runner) → runner_of s.running n ≡ Some r → AreNumbered s.last_query s.waiting s.running → runner_called s.running r.query ≡ Some r
+pub runner-number : (s : State) (n : ℕ) (r : Runner) → runner_of s.running n ≡ Some r → AreNumbered s.last_query s.waiting s.running → runner_called s.running r.query ≡ Some r
 runner-number s n r found numbered =
     let by_number = λ (x : Runner). eqb x.query r.query in
     let split = found-split (λ (x : Runner). eqb x.session n) r s.running found in

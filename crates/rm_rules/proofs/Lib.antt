@@ -38,5 +38,6 @@ pub mod SettledLaws
 pub mod Within
 pub mod Alone
 pub mod Grants
+pub mod Runs
 pub mod Histories
 pub mod Submitting

@@ -111,7 +111,7 @@ loud-change s seat clock _ _ formed (closes session x found rests) in_phase same
     )
 
 -- a number that was given is not the next one, and a query that waits has one that was given
-next-differs : (last n : ℕ) → n ≤ last → eqb (last + 1) n ≡ false
+pub next-differs : (last n : ℕ) → n ≤ last → eqb (last + 1) n ≡ false
 next-differs last n given = grind (arith, nat_tests)
 
 given-waits : (s : State) (n : ℕ) → AreNumbered s.last_query s.waiting s.running → 1 ≤ count_by (λ (w : Waiter). eqb w.query n) s.waiting → n ≤ s.last_query

@@ -10,8 +10,8 @@ use Rattle.rm_rules.specs.declared.state.Phase.TheVariants as phase
 use Rattle.rm_rules.specs.declared.state.Session.{Session}
 use Rattle.rm_rules.specs.State.{session_called, phase_of, with_phase, with_choice, without_session, is_idle, is_active, is_ended, is_waiting, is_running, live_queries, active_queries}
 use Rattle.rm_rules.specs.Healthy.{AreOpened, one_if}
-use Rattle.rm_rules.proofs.Taken.{found_passes, sum_without, length_without, count_without, all_without}
-use Rattle.rm_rules.proofs.Found.{find-without, none-counted}
+use Rattle.rm_rules.proofs.Taken.{sum_without, length_without, count_without, all_without}
+use Rattle.rm_rules.proofs.Found.{find-without, none-left}
 use Rattle.rm_rules.proofs.Changed.{sum-changed, sum-kept, length-changed, all-changed, found-changed, other-changed}
 
 -- the session of this number, and that session in another phase or with another choice
@@ -129,10 +129,8 @@ count-push test xs y fails =
 dropped-turn : (n m : ℕ) (x : Session) (xs : List Session) (b : Bool) → eqb n m ≡ b → session_called xs n ≡ Some x → x.phase ≡ phase.Idle → count_by (has_number n) xs ≤ 1
     → phase_of (without_session n xs) m ≡ phase_of xs m
 dropped-turn n m x xs true e found idle once =
-    let one : cond {A = ℕ} (eqb x.number n) 1 0 ≡ 1 = ap {B = ℕ} (λ b. cond b 1 0) (found_passes (has_number n) x xs found) in
-    let none : count_by (has_number n) (without_session n xs) ≡ 0 = omega (arith, once, one, sum_without (λ (z : Session). cond (eqb z.number n) 1 0) (has_number n) x xs found) in
     subst (λ k. phase_of (without_session n xs) k ≡ phase_of xs k) (eqb-true n m e)
-    (ap phase_in (none-counted (has_number n) (without_session n xs) none) ∙ sym (phase_of-found n xs x found ∙ idle))
+    (ap phase_in (none-left (has_number n) xs once) ∙ sym (phase_of-found n xs x found ∙ idle))
 dropped-turn n m x xs false e found idle once = ap phase_in (find-without (has_number n) (has_number m) xs (λ y is. differ y.number n m e is))
 
 pub phase_of-drop : (n m : ℕ) (x : Session) (xs : List Session) → session_called xs n ≡ Some x → x.phase ≡ phase.Idle → count_by (has_number n) xs ≤ 1

@@ -82,6 +82,18 @@ still_running s (Poll session) answer = s.running
 still_running s (Finish session) answer = elim (released answer) [ Some grant ↦ without_runner session s.running | None ↦ s.running ]
 still_running s (Close session) answer = s.running
 
+-- what a running query is to the one who submitted it: its number and its grant, which stay while it runs
+pub record Run : Type 0 where
+  pub query : ℕ
+  pub grant : ℕ
+
+abbrev pub run_by : Runner → Run
+run_by r = record { query = r.query; grant = r.grant }
+
+-- the running query of the session of this number, where this seat has opened it
+abbrev pub run_of : State → ℕ → ℕ → Option Run
+run_of s seat session = option_and_then (λ _. option_map run_by (runner_of s.running session)) (session_of s seat session)
+
 -- this event submitted the query
 abbrev pub WasSubmitted : State → Event → Waiter → Type 0
 WasSubmitted old event w = (event ≡ Submit w.session w.floor) × (w.query ≡ old.last_query + 1)
