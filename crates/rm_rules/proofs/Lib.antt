@@ -1,12 +1,17 @@
 pub mod Taken
 pub mod Places
 pub mod Once
+pub mod Rows
 pub mod Pools
 pub mod AcceptancePools
 pub mod AcceptanceChains
 pub mod AcceptanceRanges
 pub mod Known
 pub mod Sizes
+pub mod Refused
+pub mod PoolLaws
+pub mod GrantLaws
+pub mod UserLaws
 pub mod AcceptanceLaws
 pub mod Bytes
 pub mod Queue
