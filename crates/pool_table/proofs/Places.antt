@@ -1,7 +1,7 @@
 -- A row in its place.
-use Rattle.std.specs.Prelude.{◌≡◌, ℕ, suc, ◌+◌, ◌<◌, ◌≤◌, Bool, true, false, not, cond, List, [], ◌∷◌, ◌++◌, length, slice_set, Some, None, refl}
+use Rattle.std.specs.Prelude.{◌≡◌, ℕ, suc, ◌+◌, ◌<◌, ◌≤◌, Bool, true, false, not, cond, List, [], ◌∷◌, ◌++◌, length, slice_set, Option, Some, None, refl}
 use Rattle.std.specs.List.{position, position_or_len}
-use Rattle.std.proofs.Common.{sym, ap, ◌∙◌, subst, arith}
+use Rattle.std.proofs.Common.{sym, ap, ◌∙◌, arith}
 use Rattle.std.proofs.lemmas.List.{length_push}
 use Rattle.rm_base.specs.declared.name.Name.{Name}
 use Rattle.rm_base.specs.Name.{same_name}
@@ -38,16 +38,26 @@ with-added name_of row [] past = refl
 with-added name_of row (r ∷ rs) past =
     add-turn name_of row r rs (same_name (name_of r) (name_of row)) (position_or_len (has_name name_of (name_of row)) rs) past (with-added name_of row rs)
 
--- by the place that `position` gives
-pub with-found : {A : Type 0} (name_of : A → Name) (row : A) (rs : List A) (i : ℕ) → position (has_name name_of (name_of row)) rs ≡ Some i
-    → (i < length rs) × (with_row name_of row rs ≡ slice_set rs i row)
-with-found name_of row rs i h =
-    let within : position_or_len (has_name name_of (name_of row)) rs < length rs = position-within (has_name name_of (name_of row)) rs i h in
-    subst (λ k. (k < length rs) × (with_row name_of row rs ≡ slice_set rs k row)) (position-is (has_name name_of (name_of row)) rs i h) (within, with-set name_of row rs within)
+-- the place of a row of the name, where the name and the rows are read off others
+pub place-read : {A : Type 0} (name_of : A → Name) (row : A) (rows read : List A) (name : Name) (place : Option ℕ) → place ≡ position (has_name name_of name) read
+    → name ≡ name_of row → read ≡ rows → place ≡ position (has_name name_of (name_of row)) rows
+place-read {A} name_of row rows read name place at named same =
+    at ∙ ap (λ n. position (has_name name_of n) read) named ∙ ap (λ (l : List A). position (has_name name_of (name_of row)) l) same
 
-pub with-missing : {A : Type 0} (name_of : A → Name) (row : A) (rs : List A) → position (has_name name_of (name_of row)) rs ≡ None → with_row name_of row rs ≡ rs ++ row ∷ []
-with-missing name_of row rs h = with-added name_of row rs (position-past (has_name name_of (name_of row)) rs h)
+-- by the place that `position` gives: what is set there, or added
+pub put-found : {A : Type 0} (name_of : A → Name) (row : A) (rows new : List A) (i : ℕ) → position (has_name name_of (name_of row)) rows ≡ Some i → new ≡ slice_set rows i row
+    → new ≡ with_row name_of row rows
+put-found name_of row rows new i h is =
+    let within : position_or_len (has_name name_of (name_of row)) rows < length rows = position-within (has_name name_of (name_of row)) rows i h in
+    is ∙ ap (λ k. slice_set rows k row) (sym (position-is (has_name name_of (name_of row)) rows i h)) ∙ sym (with-set name_of row rows within)
 
-pub room-for_more : {A : Type 0} (name_of : A → Name) (row : A) (rs : List A) (most : ℕ) → position (has_name name_of (name_of row)) rs ≡ None → length (with_row name_of row rs) ≤ most
-    → length rs < most
-room-for_more name_of row rs most h room = omega (arith, ap length (with-missing name_of row rs h), length_push rs row)
+with-missing : {A : Type 0} (name_of : A → Name) (row : A) (rows : List A) → position (has_name name_of (name_of row)) rows ≡ None → with_row name_of row rows ≡ rows ++ row ∷ []
+with-missing name_of row rows h = with-added name_of row rows (position-past (has_name name_of (name_of row)) rows h)
+
+pub put-missing : {A : Type 0} (name_of : A → Name) (row : A) (rows new : List A) → position (has_name name_of (name_of row)) rows ≡ None → new ≡ rows ++ row ∷ []
+    → new ≡ with_row name_of row rows
+put-missing name_of row rows new h is = is ∙ sym (with-missing name_of row rows h)
+
+pub room-for_more : {A : Type 0} (name_of : A → Name) (row : A) (rows : List A) (most : ℕ) → position (has_name name_of (name_of row)) rows ≡ None → length (with_row name_of row rows) ≤ most
+    → length rows < most
+room-for_more name_of row rows most h room = omega (arith, ap length (with-missing name_of row rows h), length_push rows row)

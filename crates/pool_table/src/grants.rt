@@ -120,11 +120,7 @@ pub fn grant_usage_refusal(definitions: &Definitions, pool: Name, grantee: Name)
 }
 
 /// Why USAGE of a pool is not revoked.
-pub fn revoke_usage_refusal(
-    definitions: &Definitions,
-    pool: Name,
-    grantee: Name,
-) -> Option<Refusal>
+pub fn revoke_usage_refusal(definitions: &Definitions, pool: Name, grantee: Name) -> Option<Refusal>
     ensures { result ≡ revoke_usage_refusal definitions.now pool grantee }
 {
     first_refusal(&[

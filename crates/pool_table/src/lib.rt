@@ -13,11 +13,11 @@ mod grants;
 mod known;
 mod pools;
 mod refusals;
+mod rights;
 mod roles;
 mod sizes;
 mod soundness;
 mod tables;
-mod rights;
 mod users;
 
 use crate::grants::{
@@ -33,11 +33,11 @@ use crate::roles::{
 use crate::users::{
     alter_user, alter_user_refusal, create_user, create_user_refusal, drop_user, drop_user_refusal,
 };
+pub use rights::{default_pool, usage};
 use rm_base::definitions::Definitions;
 use rm_base::refusal::Refusal;
 use rm_base::statement::Statement;
 pub use soundness::sound;
-pub use rights::{default_pool, usage};
 
 /// Whether a statement is accepted, or the first of the refusals that hold, in the order of their numbers.
 pub fn accept(definitions: &Definitions, statement: &Statement) -> Result<(), Refusal>

@@ -7,7 +7,9 @@ ghost use Rattle.rm_rules.specs.PoolStatements.{max_whole, changed_pool, created
 
 use crate::after::{called_after, reserved_after, total_after};
 use crate::chains::{is_on_chain, longest_through};
-use crate::refusals::{changes_full, first_refusal, pool_missing, pool_taken, refused_if, table_full};
+use crate::refusals::{
+    changes_full, first_refusal, pool_missing, pool_taken, refused_if, table_full,
+};
 use crate::sizes::{limit_or, size_or};
 use crate::tables::put;
 use rm_base::definitions::{Definitions, default_pool_row};

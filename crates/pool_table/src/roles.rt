@@ -8,8 +8,8 @@ use crate::refusals::{
     changes_full, first_refusal, given_pool_missing, grantee_taken, refused_if, role_missing,
     table_full,
 };
-use crate::tables::put;
 use crate::rights::role_usage;
+use crate::tables::put;
 use rm_base::definitions::Definitions;
 use rm_base::limits::ROLES_MOST;
 use rm_base::name::Name;

@@ -9,9 +9,9 @@ use crate::refusals::{
     changes_full, first_refusal, given_pool_missing, grantee_taken, refused_if, table_full,
     user_missing,
 };
+use crate::rights::usage;
 use crate::sizes::limit_or;
 use crate::tables::put;
-use crate::rights::usage;
 use rm_base::definitions::{Definitions, default_user_row};
 use rm_base::limits::USERS_MOST;
 use rm_base::name::Name;
