@@ -13,6 +13,7 @@ pub mod PoolLaws
 pub mod GrantLaws
 pub mod UserLaws
 pub mod AcceptanceLaws
+pub mod NewUsers
 pub mod Bytes
 pub mod Queue
 pub mod There

@@ -42,6 +42,10 @@ pub ok-free : {A : Type 0} (o : Option Refusal) (next : A) → is_ok (unless_ref
 ok-free None next h = refl
 ok-free (Some r) next h = absurd (false≢true h)
 
+pub ok-done : {A : Type 0} (o : Option Refusal) (next : A) → is_ok (unless_refused o next) ≡ true → unless_refused o next ≡ Ok next
+ok-done None next h = refl
+ok-done (Some r) next h = absurd (false≢true h)
+
 -- what a statement leaves that nothing refuses: sound definitions, and room for the change
 pub record IsLeft (d new : Definitions) : Type 0 where
   pub sound : IsSound new
