@@ -5,8 +5,6 @@ use Rattle.rm_base.specs.declared.catalog.CatalogColumn.{CatalogColumn}
 use Rattle.rm_base.specs.declared.select.Item.{Item}
 use Rattle.rm_base.specs.declared.select.Op.{Op}
 use Rattle.rm_base.specs.declared.select.Operand.TheVariants as operand
-use Rattle.rm_base.specs.declared.select.OrderKey.{OrderKey}
-use Rattle.rm_base.specs.declared.select.OrderSpec.{OrderSpec}
 use Rattle.rm_base.specs.declared.select.Select.{Select}
 use Rattle.rm_base.specs.declared.select.Test.{Test}
 use Rattle.rm_base.specs.declared.value.Value.{Value}
