@@ -36,3 +36,4 @@ pub mod Meaning
 pub mod Matching
 pub mod Stages
 pub mod AllFits
+pub mod SelectExamples
