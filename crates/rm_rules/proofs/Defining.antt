@@ -147,7 +147,7 @@ pub record HasPlaces (s : State) (d : Definitions) : Type 0 where
   pub kept : kept_back (holdings_of (defined s d).state).reserves ≡ kept_back (holdings_of s).reserves
   pub debts : sum_by (debt (holdings s.running)) (holdings_of (defined s d).state).reserves ≡ sum_by (debt (holdings s.running)) (holdings_of s).reserves
 
-names-length : (pools : List PoolRow) → length (names pools) ≡ length pools
+pub names-length : (pools : List PoolRow) → length (names pools) ≡ length pools
 names-length pools = length-map pools (λ (r : PoolRow). r.name)
 
 places-kept : (s : State) (new : Definitions) → AreSized s.definitions s.actual s.counters → names new.pools ≡ names s.definitions.pools → HasPlaces s new
