@@ -37,19 +37,19 @@ use Rattle.rm_rules.proofs.AcceptanceLaws.{accepted-left}
 
 -- a statement leaves the names of the pools, or puts one behind them that was not there
 pub data NamesAfter (d new : Definitions) : Type 0 where
-  keeps : names new.pools ≡ names d.pools → NamesAfter d new
-  adds : (row : PoolRow) → has_pool d row.name ≡ false → new.pools ≡ d.pools ++ row ∷ [] → NamesAfter d new
+  keeps_names : names new.pools ≡ names d.pools → NamesAfter d new
+  adds_name : (row : PoolRow) → has_pool d row.name ≡ false → new.pools ≡ d.pools ++ row ∷ [] → NamesAfter d new
 
 row-turn : (d : Definitions) (row : PoolRow) (b : Bool) → has_pool d row.name ≡ b → NamesAfter d (with_pool d row)
-row-turn d row true there = keeps (names-there (λ (r : PoolRow). r.name) row d.pools there)
-row-turn d row false absent = adds row absent (last-absent (λ (r : PoolRow). r.name) row d.pools absent)
+row-turn d row true there = keeps_names (names-there (λ (r : PoolRow). r.name) row d.pools there)
+row-turn d row false absent = adds_name row absent (last-absent (λ (r : PoolRow). r.name) row d.pools absent)
 
 row-names : (d : Definitions) (row : PoolRow) → NamesAfter d (with_pool d row)
 row-names d row = row-turn d row (has_pool d row.name) refl
 
 grant-turn : (d : Definitions) (g : GrantRow) (b : Bool) → (let more : Definitions = record d { grants = d.grants ++ g ∷ [] } in NamesAfter d (cond b d more))
-grant-turn d g true = keeps refl
-grant-turn d g false = keeps refl
+grant-turn d g true = keeps_names refl
+grant-turn d g false = keeps_names refl
 
 grant-names : (d : Definitions) (g : GrantRow) → NamesAfter d (with_grant d g)
 grant-names d g = grant-turn d g (has_grant d.grants g)
@@ -57,21 +57,21 @@ grant-names d g = grant-turn d g (has_grant d.grants g)
 left-names : (d : Definitions) (statement : Statement) → NamesAfter d (left_by d statement)
 left-names d (CreatePool name c) = row-names d (created_pool d name c)
 left-names d (AlterPool name c) = row-names d (altered_pool d name c)
-left-names d (DropPool name) = keeps refl
-left-names d (CreateUser name c) = keeps refl
-left-names d (AlterUser name c) = keeps refl
-left-names d (DropUser name) = keeps refl
-left-names d (CreateRole name) = keeps refl
-left-names d (AlterRole name pool) = keeps refl
-left-names d (DropRole name) = keeps refl
+left-names d (DropPool name) = keeps_names refl
+left-names d (CreateUser name c) = keeps_names refl
+left-names d (AlterUser name c) = keeps_names refl
+left-names d (DropUser name) = keeps_names refl
+left-names d (CreateRole name) = keeps_names refl
+left-names d (AlterRole name pool) = keeps_names refl
+left-names d (DropRole name) = keeps_names refl
 left-names d (GrantUsage pool grantee) = grant-names d (usage_grant d pool grantee)
-left-names d (RevokeUsage pool grantee) = keeps refl
+left-names d (RevokeUsage pool grantee) = keeps_names refl
 left-names d (GrantRole role user) = grant-names d (RoleToUser role user)
-left-names d (RevokeRole role user) = keeps refl
+left-names d (RevokeRole role user) = keeps_names refl
 
 counted-names : (d new : Definitions) → NamesAfter d new → NamesAfter d (counted new)
-counted-names d new (keeps same) = keeps same
-counted-names d new (adds row absent last) = adds row absent last
+counted-names d new (keeps_names same) = keeps_names same
+counted-names d new (adds_name row absent last) = adds_name row absent last
 
 pub accepted-names : (d : Definitions) (statement : Statement) (new : Definitions) → accepted d statement ≡ Ok new → NamesAfter d new
 accepted-names d statement new h =
@@ -192,16 +192,16 @@ places-added s new row sound sized there absent last =
 
 pub places : (s : State) (new : Definitions) → NamesAfter s.definitions new → IsSound s.definitions → AreSized s.definitions s.actual s.counters
     → AreThere s.definitions s.sessions s.waiting s.running → HasPlaces s new
-places s new (keeps same) sound sized there = places-kept s new sized same
-places s new (adds row absent last) sound sized there = places-added s new row sound sized there absent last
+places s new (keeps_names same) sound sized there = places-kept s new sized same
+places s new (adds_name row absent last) sound sized there = places-added s new row sound sized there absent last
 
 -- the pools that were there are there
 any-push : (n : Name) (ns : List Name) (m : Name) → list_any (same_name n) ns ≡ true → list_any (same_name n) (ns ++ m ∷ []) ≡ true
 any-push n ns m there = list_any-append (same_name n) ns (m ∷ []) ∙ ap (λ b. b || list_any (same_name n) (m ∷ [])) there
 
 stays-there : (d new : Definitions) → NamesAfter d new → (n : Name) → has_pool d n ≡ true → has_pool new n ≡ true
-stays-there d new (keeps same) n there = is_called new.pools n ∙ ap (list_any (same_name n)) same ∙ sym (is_called d.pools n) ∙ there
-stays-there d new (adds row absent last) n there =
+stays-there d new (keeps_names same) n there = is_called new.pools n ∙ ap (list_any (same_name n)) same ∙ sym (is_called d.pools n) ∙ there
+stays-there d new (adds_name row absent last) n there =
     is_called new.pools n ∙ ap (λ (l : List PoolRow). list_any (same_name n) (names l)) last ∙ ap (list_any (same_name n)) (map_push (λ (r : PoolRow). r.name) d.pools row)
     ∙ any-push n (names d.pools) row.name (sym (is_called d.pools n) ∙ there)
 
