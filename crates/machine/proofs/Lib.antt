@@ -8,5 +8,6 @@ pub mod Defining
 pub mod Looping
 pub mod Settling
 pub mod Entering
+pub mod Pushing
 pub mod Looking
 pub mod Keeping
