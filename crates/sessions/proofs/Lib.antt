@@ -6,4 +6,6 @@ pub mod Written
 pub mod OptionsLaws
 pub mod ScriptLaws
 pub mod EndedLaws
+pub mod EndedLemmas
+mod NamesLemmas
 pub mod RunLemmas

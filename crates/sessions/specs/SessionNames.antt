@@ -1,7 +1,13 @@
-use Rattle.std.specs.Prelude.{ℕ, List, Option, option_map, find}
+-- The script's names of its sessions.
+use Rattle.std.specs.Prelude.{ℕ, Bool, List, Option, option_map, find}
+use Rattle.std.specs.List.{list_any}
 use Rattle.rm_base.specs.declared.name.Name.{Name}
 use Rattle.rm_base.specs.Name.{same_name}
 use Rattle.sessions.specs.declared.names.Named.{Named}
+
+-- some session has this name
+abbrev pub is_used : List Named → Name → Bool
+is_used names name = list_any (λ n. same_name n.name name) names
 
 -- the session that has this name
 abbrev pub session_named : List Named → Name → Option ℕ

@@ -4,7 +4,7 @@
 
 mod command;
 mod comments;
-mod ended;
+mod failure;
 mod input;
 mod lines;
 mod names;
