@@ -7,3 +7,4 @@ pub mod OptionsLaws
 pub mod ScriptLaws
 pub mod EndedLaws
 pub mod RunLemmas
+pub mod HostLaws

@@ -11,3 +11,4 @@ pub mod Script
 pub mod OptionsFacts
 pub mod Ended
 pub mod Running
+pub mod Host

@@ -5,6 +5,7 @@
 mod command;
 mod comments;
 mod ended;
+pub mod host;
 mod input;
 mod lines;
 mod names;
