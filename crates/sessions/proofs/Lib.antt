@@ -9,3 +9,4 @@ pub mod EndedLaws
 pub mod EndedLemmas
 mod NamesLemmas
 pub mod RunLemmas
+pub mod HostLaws

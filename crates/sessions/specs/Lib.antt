@@ -1,6 +1,7 @@
 pub mod Commands
 pub mod Ended
 pub mod Failures
+pub mod Host
 pub mod Lines
 pub mod Numbers
 pub mod Options

@@ -5,6 +5,7 @@
 mod command;
 mod comments;
 mod failure;
+pub mod host;
 mod input;
 mod lines;
 mod names;
