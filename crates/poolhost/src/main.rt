@@ -30,6 +30,7 @@ Lines of a script:
   ask S FLOOR          submits a query of S that needs at least FLOOR bytes
   poll S               tells what became of the query of S
   done S               ends the query of S
+  close S              closes the session
 Empty lines and lines that begin with # print nothing.";
 
 /// The words of the command line, without the program's own.

@@ -24,10 +24,10 @@ use Rattle.rm_rules.specs.Replay.{replay, IsFormed, IsLegal}
 use Rattle.rm_rules.proofs.Laws.{legal-step, replay-step, conserved-after-each, fresh-sound, healthy-start}
 use Rattle.rm_rules.proofs.Histories.{bytes-from}
 use Rattle.sessions.specs.declared.options.Options.{Options}
-use Rattle.sessions.specs.Commands.{Request, SetPool, Ask, Poll, Done, Command, At, Sql, Open, Of, command_of}
+use Rattle.sessions.specs.Commands.{Request, SetPool, Ask, Poll, Done, Close, Command, At, Sql, Open, Of, command_of}
 use Rattle.sessions.specs.Options.{options_of}
 use Rattle.sessions.specs.Script.{command_turn, line_turn, is_comment, ScriptEnd, turn_end, lines_end, no_script, script_start, first_state, script_with, script, IsOneHistory}
-use Rattle.sessions.specs.Turns.{ScriptState, Turn, Bad, Goes, Stops, judged_turn, read_turn, with_name, chosen_turn, opened_turn, opening_turn, request_turn, session_turn, turn}
+use Rattle.sessions.specs.Turns.{ScriptState, Turn, Bad, Goes, Stops, judged_turn, read_turn, with_name, chosen_turn, opened_turn, opening_turn, after_close, close_turn, request_turn, session_turn, turn}
 use Rattle.sessions.specs.SessionNames.{session_named}
 use Rattle.sessions.proofs.OptionsLaws.{options-within}
 
@@ -75,11 +75,21 @@ opens P each s session user pool h =
     let o = step s.machine 0 s.moment (event.Open user) in
     follows_open P each (record s { machine = o.state }) session pool o.reply (each s.machine s.moment (event.Open user) tt h)
 
+after_close-machine : (s : ScriptState) (session : Name) (r : Reply) → (after_close s session r).machine ≡ s.machine
+after_close-machine s session reply.Closed = refl
+after_close-machine s session _ = refl
+
+closes : (P : State → Type 0) → IsKeptByCalls P → (s : ScriptState) (session : Name) (number : ℕ) → P s.machine → OnTurn P (close_turn s session number)
+closes P each s session number h =
+    let o = step s.machine 0 s.moment (event.Close number) in
+    subst P (sym (after_close-machine (record s { machine = o.state }) session o.reply)) (each s.machine s.moment (event.Close number) tt h)
+
 requests : (P : State → Type 0) → IsKeptByCalls P → (s : ScriptState) (session : Name) (number : ℕ) (r : Request) → P s.machine → OnTurn P (request_turn s session number r)
 requests P each s session number (SetPool pool) h = each s.machine s.moment (event.SetPool number pool) tt h
 requests P each s session number (Ask floor) h = each s.machine s.moment (event.Submit number floor) tt h
 requests P each s session number Poll h = each s.machine s.moment (event.Poll number) tt h
 requests P each s session number Done h = each s.machine s.moment (event.Finish number) tt h
+requests P each s session number Close h = closes P each s session number h
 
 for_session : (P : State → Type 0) → IsKeptByCalls P → (s : ScriptState) (session : Name) (r : Request) (o : Option ℕ) → P s.machine → OnTurn P (session_turn s session r o)
 for_session P each s session r None h = tt

@@ -20,6 +20,7 @@ pub data Request : Type 0 where
   Ask : (floor : ℕ) → Request
   Poll : Request
   Done : Request
+  Close : Request
 
 -- what a line of a script asks for
 pub data Command : Type 0 where
@@ -34,6 +35,7 @@ seen_request (asked.SetPool pool) = SetPool pool
 seen_request (asked.Ask floor) = Ask floor
 seen_request asked.Poll = Poll
 seen_request asked.Done = Done
+seen_request asked.Close = Close
 
 abbrev pub seen_command : Told → Command
 seen_command (told.At moment) = At moment.value
@@ -50,7 +52,8 @@ verb_of word =
     else (if bytes_eq word (codes "set") then Some verb.Set
     else (if bytes_eq word (codes "ask") then Some verb.Ask
     else (if bytes_eq word (codes "poll") then Some verb.Poll
-    else (if bytes_eq word (codes "done") then Some verb.Done else None))))))
+    else (if bytes_eq word (codes "done") then Some verb.Done
+    else (if bytes_eq word (codes "close") then Some verb.Close else None)))))))
 
 -- what stands before the first space of a line
 abbrev pub first_word : List ℕ → List ℕ
@@ -110,6 +113,7 @@ command_with verb.Set line = option_and_then pool_form (three_behind (line_words
 command_with verb.Ask line = floor_form (line_words line)
 command_with verb.Poll line = plain_form Poll (line_words line)
 command_with verb.Done line = plain_form Done (line_words line)
+command_with verb.Close line = plain_form Close (line_words line)
 
 -- the command that a line gives, where its first word is a verb and what follows has a form of that verb
 abbrev pub command_of : List ℕ → Option Command

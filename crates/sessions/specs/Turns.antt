@@ -13,8 +13,8 @@ use Rattle.rm_rules.specs.Acceptance.{accepted, is_judged}
 use Rattle.rm_rules.specs.State.{State}
 use Rattle.rm_rules.specs.Step.{step}
 use Rattle.sessions.specs.declared.names.Named.{Named}
-use Rattle.sessions.specs.Commands.{Request, SetPool, Ask, Poll, Done, Command, At, Sql, Open, Of}
-use Rattle.sessions.specs.SessionNames.{is_used, session_named}
+use Rattle.sessions.specs.Commands.{Request, SetPool, Ask, Poll, Done, Close, Command, At, Sql, Open, Of}
+use Rattle.sessions.specs.SessionNames.{is_used, session_named, without_name}
 use Rattle.sessions.specs.Texts.{line_text, queued_text, chosen_text, bare_text}
 
 -- the state of a script: the machine's, the script's names of the open sessions, and its moment
@@ -79,12 +79,24 @@ opening_turn s session user pool =
 abbrev pub open_turn : ScriptState → Name → Name → Option Name → Turn
 open_turn s session user pool = if is_used s.names session then Bad else opening_turn s session user pool
 
+-- the script's names after the reply to Close: a session that is gone leaves its name free
+abbrev pub after_close : ScriptState → Name → Reply → ScriptState
+after_close s session reply.Closed = record s { names = without_name session s.names }
+after_close s session answer = s
+
+-- `close S`
+abbrev pub close_turn : ScriptState → Name → ℕ → Turn
+close_turn s session number =
+    let o = step s.machine 0 s.moment (event.Close number) in
+    Goes (line_text session o.reply) (after_close (record s { machine = o.state }) session o.reply)
+
 -- what is asked of the session S of this number
 abbrev pub request_turn : ScriptState → Name → ℕ → Request → Turn
 request_turn s session number (SetPool pool) = called s (event.SetPool number pool) (line_text session)
 request_turn s session number (Ask floor) = called s (event.Submit number floor) (queued_text session)
 request_turn s session number Poll = called s (event.Poll number) (line_text session)
 request_turn s session number Done = called s (event.Finish number) (line_text session)
+request_turn s session number Close = close_turn s session number
 
 -- what is asked of S, by the session that has the name: bad where none has
 abbrev pub session_turn : ScriptState → Name → Request → Option ℕ → Turn

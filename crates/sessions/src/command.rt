@@ -38,6 +38,8 @@ pub enum Request {
     Poll,
     /// `done S`: it ends its query.
     Done,
+    /// `close S`: it goes.
+    Close,
 }
 
 /// The first word of a command.
@@ -50,6 +52,7 @@ pub enum Verb {
     Ask,
     Poll,
     Done,
+    Close,
 }
 
 /// The command that a line gives, if it gives one.
@@ -76,6 +79,7 @@ fn read_with(alloc: Global, verb: Verb, line: &str) -> Result<Option<Command<'_>
         Verb::Ask => Ok(floor_form(&line_words(alloc, line)?)),
         Verb::Poll => Ok(plain_form(Request::Poll, &line_words(alloc, line)?)),
         Verb::Done => Ok(plain_form(Request::Done, &line_words(alloc, line)?)),
+        Verb::Close => Ok(plain_form(Request::Close, &line_words(alloc, line)?)),
     }
 }
 
@@ -91,6 +95,7 @@ fn verb_of(word: &str) -> Option<Verb>
         "ask" => Some(Verb::Ask),
         "poll" => Some(Verb::Poll),
         "done" => Some(Verb::Done),
+        "close" => Some(Verb::Close),
         _ => None,
     }
 }

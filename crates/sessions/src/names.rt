@@ -2,7 +2,7 @@
 
 ghost use Rattle.std.specs.Prelude.{◌≡◌, ◌<◌, IfSome, length, position};
 ghost use Rattle.rm_base.specs.Name.{same_name};
-ghost use Rattle.sessions.specs.SessionNames.{is_used};
+ghost use Rattle.sessions.specs.SessionNames.{is_used, without_name};
 
 use rm_base::name::Name;
 
@@ -26,4 +26,13 @@ pub fn is_used(names: &[Named], name: Name) -> bool
     ensures { result ≡ is_used names.now name }
 {
     names.iter().any(|n| n.name.same(name))
+}
+
+/// The name is free again.
+pub fn free(names: &mut Vec<Named>, name: Name)
+    ensures { names.new.items ≡ without_name name names.old.items }
+{
+    if let Some(place) = place_of(names, name) {
+        names.remove(place);
+    }
 }

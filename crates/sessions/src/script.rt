@@ -11,7 +11,7 @@ use crate::command::{Command, Request, read_command};
 use crate::comments::is_comment;
 use crate::failure::Failure;
 use crate::lines::readable;
-use crate::names::{Named, is_used, place_of};
+use crate::names::{Named, free, is_used, place_of};
 use crate::numbers::Number;
 use crate::options::Options;
 use crate::texts::{bare_text, chosen_text, line_text, queued_text};
@@ -47,7 +47,7 @@ pub enum Turned {
 const SEAT: u32 = 0;
 
 impl Script {
-    ghost use Rattle.std.specs.Prelude.{◌≡◌, true, [], IfOk, IfErr};
+    ghost use Rattle.std.specs.Prelude.{◌≡◌, true, [], IfOk, IfErr, string_bytes};
     ghost use Rattle.rm_base.specs.Ranges.{is_statement_in_range};
     ghost use Rattle.rm_base.specs.WellFormed.{IsWellFormed};
     ghost use Rattle.rm_rules.specs.Step.{step};
@@ -56,7 +56,7 @@ impl Script {
     ghost use Rattle.sessions.specs.Commands.{seen_command, seen_request};
     ghost use Rattle.sessions.specs.OptionsFacts.{AreWithin};
     ghost use Rattle.sessions.specs.Script.{first_state, line_turn};
-    ghost use Rattle.sessions.specs.Turns.{turn, at_turn, read_turn, statement_turn, open_turn, opening_turn, chosen_turn, session_turn, request_turn};
+    ghost use Rattle.sessions.specs.Turns.{turn, at_turn, read_turn, statement_turn, open_turn, opening_turn, chosen_turn, close_turn, session_turn, request_turn, Goes};
     ghost use Rattle.sessions.specs.SessionNames.{session_named};
     ghost use Rattle.sessions.specs.Running.{seen_script, seen_turn, IsLineFault};
 
@@ -256,8 +256,20 @@ impl Script {
                 let reply = self.call(&Event::Finish { session: number });
                 line_text(alloc, session, reply)?
             }
+            Request::Close => self.close(alloc, session, number)?,
         };
         Ok(Turned::Goes(text))
+    }
+
+    /// `close S`
+    fn close(&mut self, alloc: Global, session: Name, number: u32) -> Result<String, AllocError>
+        ensures { IfOk result (λ text. Goes (string_bytes text) (seen_script self.new) ≡ close_turn (seen_script self.old) session number) }
+    {
+        let reply = self.call(&Event::Close { session: number });
+        if let Reply::Closed = reply {
+            free(&mut self.names, session);
+        }
+        line_text(alloc, session, reply)
     }
 
     /// Makes a machine call at the script's moment.

@@ -67,10 +67,13 @@ fn numbered(alloc: Global, before: &str, after: &str, most: u32) -> Result<Strin
 
 #[test]
 fn so_many_sessions_are_open(rt: HostRuntime) -> Result<(), Fail> {
-    let script = numbered(rt.alloc(), "open s", " dbadmin", 129)?;
+    let mut script = numbered(rt.alloc(), "open s", " dbadmin", 129)?;
+    script.push_str("close s1\nopen s129 dbadmin\nopen s1 dbadmin\nclose s128\nopen s1 dbadmin\n")?;
     let (status, out) = run(rt.alloc(), USUAL, script.as_bytes())?;
     assert_eq!(rt; status, 0);
-    assert!(rt; out.contents().ends_with(b"s128 opened 128\ns129 refused 24 128\n"));
+    assert!(rt; out.contents().ends_with(
+        b"s128 opened 128\ns129 refused 24 128\ns1 closed\ns129 opened 129\ns1 refused 24 128\ns128 closed\ns1 opened 130\n"
+    ));
     Ok(())
 }
 
