@@ -40,7 +40,10 @@ fn a_user_is_given_a_pool_that_is_granted_to_it(rt: HostRuntime) -> Result<(), F
         },
     );
     let granted = Statement::GrantUsage(etl, ann);
-    assert_eq!(rt; define(&rt, &mut definitions, &given), Err(Refusal::NotGranted(etl)));
+    assert_eq!(rt;
+        define(&rt, &mut definitions, &given),
+        Err(Refusal::NotGranted(etl))
+    );
     assert_eq!(rt; define(&rt, &mut definitions, &granted), Ok(()));
     assert_eq!(rt; define(&rt, &mut definitions, &given), Ok(()));
     assert_eq!(rt; default_pool(&definitions, ann).as_str(), "etl");
