@@ -8,6 +8,5 @@ pub mod Defining
 pub mod Looping
 pub mod Settling
 pub mod Entering
-pub mod Pushing
 pub mod Looking
 pub mod Keeping
