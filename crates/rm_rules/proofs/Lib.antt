@@ -39,3 +39,7 @@ pub mod Alone
 pub mod Grants
 pub mod Histories
 pub mod Submitting
+pub mod Early
+pub mod Crossing
+pub mod Splitting
+pub mod Staging
