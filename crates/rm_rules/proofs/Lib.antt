@@ -47,3 +47,7 @@ pub mod Grants
 pub mod Runs
 pub mod Histories
 pub mod Submitting
+pub mod Early
+pub mod Crossing
+pub mod Splitting
+pub mod Staging

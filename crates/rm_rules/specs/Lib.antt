@@ -35,5 +35,6 @@ pub mod Ordering
 pub mod Meaning
 pub mod Matching
 pub mod Stages
+pub mod StageKeys
 pub mod AllFits
 pub mod SelectExamples

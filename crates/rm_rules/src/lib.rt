@@ -8,4 +8,5 @@ pub mod history;
 pub mod readings;
 pub mod room;
 pub mod select_examples;
+pub mod select_stages;
 pub mod state;
