@@ -10,3 +10,4 @@ pub mod Characters
 pub mod Written
 pub mod Undoubling
 pub mod CutsOf
+pub mod Readings

@@ -4,3 +4,4 @@ pub mod Scan
 pub mod Cut
 pub mod CutOf
 pub mod Token
+pub mod Reading
