@@ -26,10 +26,12 @@ use Rattle.rm_base.specs.Name.{general, name_text}
 use Rattle.rm_words.specs.Token.{Says}
 use Rattle.rm_words.proofs.Printing.{number_says}
 use Rattle.pool_sql.specs.Grammar.{IsFront, Spells, bare, ended}
-use Rattle.pool_sql.specs.Machine.{onward, run}
+use Rattle.rm_words.specs.Reading.{onward}
+use Rattle.rm_words.proofs.Readings.{prefix-read}
+use Rattle.pool_sql.specs.Machine.{reader, run}
 use Rattle.pool_sql.proofs.Means.{IsEnded, IsKeyed, IsMinusRead, Means, is_ended, minus_read, more-means, path, role-means, set-means, step-means, usage-means}
 use Rattle.pool_sql.proofs.Saying.{AllSay, AllSay-append, name-says}
-use Rattle.pool_sql.proofs.Complete.{run-after, run-append, spells-gives}
+use Rattle.pool_sql.proofs.Complete.{spells-gives}
 use Rattle.pool_sql.proofs.Results.{some_is, none_some, ok_is, err_ok, true_false}
 
 -- what is read has its meaning
@@ -258,37 +260,10 @@ pub read-front : (ts : List Token) (p : Progress) → run Start ts ≡ Ok p → 
 read-front ts p h = let front = means-front p ts (sound ts p h) in (front.rest, front.statement, front.spells)
 
 -- a front is read
-front-turn : (r : Stepped) (rest : List Token) (last : Progress) → onward r (λ q. run q rest) ≡ Ok last
-    → (q : Progress) × (r ≡ Ok q)
-front-turn (Ok q) rest last h = (q, refl)
-front-turn (Err why) rest last h = absurd (err_ok why last h)
-
 pub front-read : (ts : List Token) → IsFront ts → (q : Progress) × (run Start ts ≡ Ok q)
 front-read ts front =
-    let gives = spells-gives (ts ++ front.0) front.1 front.2 in
-    front-turn (run Start ts) front.0 gives.last (sym (run-append Start ts front.0) ∙ gives.reads)
+    let gives = spells-gives (ts ++ front.0) front.1 front.2 in prefix-read reader ts front.0 gives.last gives.reads
 
 -- a front is one of words that can be written
 pub said-front : (ts : List Token) → IsFront ts → SaidFront ts
 said-front ts front = let read = front-read ts front in means-front read.0 ts (sound ts read.0 read.1)
-
--- what stops a step is no front
-pub stopped-no_front : (ts : List Token) (t : Token) (p : Progress) (why : Stop) → run Start ts ≡ Ok p → step p t ≡ Err why
-    → IsFront (ts ++ t ∷ []) → ⊥
-stopped-no_front ts t p why h stops front =
-    let read = front-read (ts ++ t ∷ []) front in
-    let stopped : run Start (ts ++ t ∷ []) ≡ Err why = run-after ts (t ∷ []) p h ∙ ap (λ r. onward r (λ q. run q [])) stops in
-    err_ok why read.0 (sym stopped ∙ read.1)
-
--- what ends too early is no statement
-pub unfinished-none : (ts : List Token) (p : Progress) (st : Statement) → run Start ts ≡ Ok p → finish p ≡ None → Spells ts st → ⊥
-unfinished-none ts p st h open_end spells =
-    let gives = spells-gives ts st spells in
-    none_some st (sym open_end ∙ ap finish (ok_is p gives.last (sym h ∙ gives.reads)) ∙ gives.gives)
-
--- words spell one statement at most
-pub one_statement : (ts : List Token) (a b : Statement) → Spells ts a → Spells ts b → a ≡ b
-one_statement ts a b x y =
-    let first = spells-gives ts a x in
-    let second = spells-gives ts b y in
-    some_is a b (sym first.gives ∙ ap finish (ok_is first.last second.last (sym first.reads ∙ second.reads)) ∙ second.gives)

@@ -39,13 +39,23 @@ append-turn : {W S E P : Type 0} (m : Reader W S E P) (r : Result P E) (xs ys : 
 append-turn m (Ok q) xs ys rest = rest q
 append-turn m (Err why) xs ys rest = refl
 
-pub run-append : {W S E P : Type 0} (m : Reader W S E P) (p : P) (xs ys : List W) → run m p (xs ++ ys) ≡ onward (run m p xs) (λ q. run m q ys)
+run-append : {W S E P : Type 0} (m : Reader W S E P) (p : P) (xs ys : List W) → run m p (xs ++ ys) ≡ onward (run m p xs) (λ q. run m q ys)
 run-append m p [] ys = refl
 run-append m p (w ∷ xs) ys = append-turn m (m.step p w) xs ys (λ q. run-append m q xs ys)
 
 pub run-after : {W S E P : Type 0} (m : Reader W S E P) (front rest : List W) (p : P) → run m m.start front ≡ Ok p
     → run m m.start (front ++ rest) ≡ run m p rest
 run-after m front rest p h = run-append m m.start front rest ∙ ap (λ r. onward r (λ q. run m q rest)) h
+
+-- the front of what is read is read
+prefix-turn : {W S E P : Type 0} (m : Reader W S E P) (r : Result P E) (rest : List W) (last : P)
+    → onward r (λ q. run m q rest) ≡ Ok last → (q : P) × (r ≡ Ok q)
+prefix-turn m (Ok q) rest last h = (q, refl)
+prefix-turn m (Err why) rest last h = absurd (err_ok why last h)
+
+pub prefix-read : {W S E P : Type 0} (m : Reader W S E P) (front rest : List W) (last : P) → run m m.start (front ++ rest) ≡ Ok last
+    → (q : P) × (run m m.start front ≡ Ok q)
+prefix-read m front rest last h = prefix-turn m (run m m.start front) rest last (sym (run-append m m.start front rest) ∙ h)
 
 -- one word more is read
 run-one : {W S E P : Type 0} (m : Reader W S E P) (front : List W) (w : W) (p : P) (r : Result P E) → run m m.start front ≡ Ok p
