@@ -1,5 +1,5 @@
 -- what was read is a front of a statement, and what is refused is none
-use Rattle.std.proofs.Common.{◌≡◌, ℕ, Bool, true, false, Some, None, Ok, Err, List, [], ◌∷◌, ◌++◌, refl, sym, ◌∙◌, ap, subst, append_assoc, append-nil, codes}
+use Rattle.std.proofs.Common.{◌≡◌, ℕ, Bool, true, false, Some, None, Ok, Err, List, [], ◌∷◌, ◌++◌, refl, sym, subst, append_assoc, append-nil, codes}
 use Rattle.rm_base.specs.declared.name.Name.{Name}
 use Rattle.rm_base.specs.declared.refusal.Parameter.{Parameter}
 use Rattle.rm_base.specs.declared.refusal.Parameter.TheVariants as parameter
@@ -15,10 +15,10 @@ use Rattle.pool_sql.specs.declared.progress.Progress.TheVariants.{Start, Verbed,
 use Rattle.pool_sql.specs.declared.progress.Verb.{Verb}
 use Rattle.pool_sql.specs.declared.progress.Verb.TheVariants as verb
 use Rattle.pool_sql.specs.declared.setting.Setting.{Setting}
-use Rattle.pool_sql.specs.declared.stop.Stop.{Stop}
 use Rattle.pool_sql.specs.Setting.{set}
 use Rattle.pool_sql.specs.Value.{value_of}
-use Rattle.pool_sql.specs.Grammar.{IsBody, create_pool, alter_pool, drop_pool, create_user, alter_user, drop_user, create_role, alter_role, drop_role, grant_usage, revoke_usage, grant_role, revoke_role, named, one, minus, IsValueDue, due, key, name, more_keys}
+use Rattle.pool_sql.specs.Grammar.{IsBody, create_pool, alter_pool, drop_pool, create_user, alter_user, drop_user, create_role, alter_role, drop_role, grant_usage, revoke_usage, grant_role, revoke_role, named, one, minus, IsValueDue, due, more_keys}
+use Rattle.rm_words.specs.Names.{key, name}
 use Rattle.pool_sql.specs.Machine.{Stepped, finish, step, to_key}
 use Rattle.std.proofs.Common.{lit<}
 use Rattle.std.specs.Fmt.{decimal}
@@ -30,9 +30,10 @@ use Rattle.rm_words.specs.Reading.{onward}
 use Rattle.rm_words.proofs.Readings.{prefix-read}
 use Rattle.pool_sql.specs.Machine.{reader, run}
 use Rattle.pool_sql.proofs.Means.{IsEnded, IsKeyed, IsMinusRead, Means, is_ended, minus_read, more-means, path, role-means, set-means, step-means, usage-means}
-use Rattle.pool_sql.proofs.Saying.{AllSay, AllSay-append, name-says}
+use Rattle.rm_words.proofs.Saying.{AllSay, AllSay-append, name-says}
 use Rattle.pool_sql.proofs.Complete.{spells-gives}
-use Rattle.pool_sql.proofs.Results.{some_is, none_some, ok_is, err_ok, true_false}
+use Rattle.pool_sql.proofs.Results.{true_false}
+use Rattle.rm_words.proofs.Results.{some_is, none_some, ok_is, err_ok}
 
 -- what is read has its meaning
 means-turn : (p : Progress) (us : List Token) (t : Token) (ts : List Token) (q : Progress) (r : Stepped) → step p t ≡ r → Means p us

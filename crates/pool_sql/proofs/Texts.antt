@@ -1,22 +1,37 @@
 -- laws of whole texts
-use Rattle.std.proofs.Common.{◌≡◌, ◌↔◌, ℕ, true, Ok, Err, List, ◌++◌, map, sym, ◌∙◌}
+use Rattle.std.proofs.Common.{◌≡◌, ◌↔◌, ℕ, true, Ok, Err, List, [], ◌∷◌, ◌++◌, map, refl, sym, ◌∙◌, ap, subst}
 use Rattle.rm_base.specs.declared.refusal.Refusal.{Refusal}
 use Rattle.rm_base.specs.declared.statement.Statement.{Statement}
 use Rattle.rm_base.specs.Ranges.{is_statement_in_range}
 use Rattle.rm_base.specs.WellFormed.{IsWellFormed}
 use Rattle.rm_base.proofs.WellFormed.{well_formed-in_range}
-use Rattle.rm_words.specs.Cut.{AreWords}
-use Rattle.rm_words.specs.Token.{token_of}
+use Rattle.rm_words.specs.declared.spans.Span.{Span}
+use Rattle.rm_words.specs.Cut.{AreWords, joined, spans_from, word_at, words_at}
+use Rattle.rm_words.specs.Token.{Token, token_of}
+use Rattle.rm_words.proofs.Joins.{joined_is_cut, joined_words}
 use Rattle.rm_words.proofs.Readings.{read_of-spells as reads-spells, read_of-refused as reads-refused}
-use Rattle.pool_sql.specs.Grammar.{IsFront}
+use Rattle.pool_sql.specs.Grammar.{IsFront, Spells}
 use Rattle.pool_sql.specs.Machine.{reader}
 use Rattle.pool_sql.specs.Text.{BeginsText, IsRefused, SpellsText, statements, tokens_in}
 use Rattle.pool_sql.specs.Reading.{read_of}
 use Rattle.pool_sql.proofs.Fronts.{said-front}
 use Rattle.pool_sql.proofs.Readings.{reads_statements}
-use Rattle.pool_sql.proofs.Results.{ok_is, err_is, err_ok}
+use Rattle.rm_words.proofs.Results.{ok_is, err_is, err_ok}
 use Rattle.pool_sql.proofs.Rights.{spelled-well_formed}
-use Rattle.pool_sql.proofs.Saying.{AllSay-append, said-spells, words_say}
+use Rattle.rm_words.proofs.Saying.{AllSay, AllSay-append, are_words, tokens_said, words_say}
+
+-- a text of words that say a statement
+tokens_in-words : (text : List ℕ) (spans : List Span) → tokens_in text spans ≡ map token_of (words_at text spans)
+tokens_in-words text [] = refl
+tokens_in-words text (span ∷ spans) = ap (λ l. token_of (word_at text span) ∷ l) (tokens_in-words text spans)
+
+pub said-spells : (st : Statement) (ws : List (List ℕ)) (ts : List Token) → Spells ts st → AllSay ws ts → SpellsText (joined ws) st
+said-spells st ws ts spells says =
+    let text : List ℕ = joined ws in
+    let spans = spans_from 0 ws in
+    let same : tokens_in text spans ≡ ts =
+    tokens_in-words text spans ∙ ap (map token_of) (joined_words text 0 ws refl) ∙ tokens_said ws ts says in
+    (spans, joined_is_cut 0 ws (are_words ws ts says), subst (λ l. Spells l st) (sym same) spells)
 
 pub read_of-spells : (text : List ℕ) (st : Statement) → read_of text ≡ Ok st ↔ SpellsText text st
 read_of-spells text st = reads-spells statements reader reads_statements text st

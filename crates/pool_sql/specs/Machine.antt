@@ -22,7 +22,8 @@ use Rattle.pool_sql.specs.declared.setting.Setting.{Setting}
 use Rattle.pool_sql.specs.declared.setting.Setting.TheVariants as setting
 use Rattle.pool_sql.specs.declared.stop.Stop.{Stop}
 use Rattle.pool_sql.specs.declared.stop.Stop.TheVariants as stop
-use Rattle.pool_sql.specs.Names.{name_of, usage_name}
+use Rattle.pool_sql.specs.Names.{usage_name}
+use Rattle.rm_words.specs.Names.{name_of}
 use Rattle.pool_sql.specs.Parameter.{is_affinity, parameter_of, takes_any}
 use Rattle.pool_sql.specs.Setting.{no_pool_change, no_user_change, set}
 use Rattle.pool_sql.specs.Value.{negative_of, optional_name, value_of}

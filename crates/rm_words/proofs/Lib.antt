@@ -1,3 +1,4 @@
+pub mod Results
 pub mod Classes
 pub mod Scans
 pub mod Cuts
@@ -11,3 +12,6 @@ pub mod Written
 pub mod Undoubling
 pub mod CutsOf
 pub mod Readings
+pub mod NameLemmas
+pub mod Keys
+pub mod Saying

@@ -5,6 +5,7 @@ use Rattle.rm_words.specs.declared.spans.Span.{Span}
 use Rattle.rm_words.specs.Cut.{IsCut}
 use Rattle.rm_words.specs.CutOf.{cut_of}
 use Rattle.rm_words.specs.Reading.{Grammar, Reader, IsRefused, at_word, at_gap, at_end, SpellsText, ends, finished, next_word, onward, read_of, read_on, run, words_in}
+use Rattle.rm_words.proofs.Results.{none_some, ok_is, err_is, err_ok}
 use Rattle.rm_words.proofs.CutLaws.{same_cut}
 use Rattle.rm_words.proofs.CutsOf.{cut_of-cut}
 
@@ -16,21 +17,6 @@ pub record IsReaderOf {W S E R P : Type 0} (g : Grammar W S E R) (m : Reader W S
   pub spells_finish : (ws : List W) (said : S) → g.Spells ws said → (p : P) × (run m m.start ws ≡ Ok p) × (m.finish p ≡ Some said)
   pub stop_why : (ws : List W) (w : W) (p : P) (why : E) → run m m.start ws ≡ Ok p → m.step p w ≡ Err why → g.IsWhy ws w why
   pub one_why : (ws : List W) (w : W) (a b : E) → g.IsWhy ws w a → g.IsWhy ws w b → a ≡ b
-
-some_is : {T : Type 0} (a b : T) → ◌≡◌ {A = Option T} (Some a) (Some b) → a ≡ b
-some_is a b h = cc
-
-none_some : {T : Type 0} (a : T) → ◌≡◌ {A = Option T} None (Some a) → ⊥
-none_some a h = cc
-
-ok_is : {T E : Type 0} (a b : T) → ◌≡◌ {A = Result T E} (Ok a) (Ok b) → a ≡ b
-ok_is a b h = cc
-
-err_is : {T E : Type 0} (a b : E) → ◌≡◌ {A = Result T E} (Err a) (Err b) → a ≡ b
-err_is a b h = cc
-
-err_ok : {T E : Type 0} (a : E) (b : T) → ◌≡◌ {A = Result T E} (Err a) (Ok b) → ⊥
-err_ok a b h = cc
 
 -- what follows is read from where the front ended
 append-turn : {W S E P : Type 0} (m : Reader W S E P) (r : Result P E) (xs ys : List W)
