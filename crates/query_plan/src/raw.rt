@@ -6,7 +6,7 @@ use rm_base::limits::{ITEMS_MOST, ORDER_KEYS_MOST, TESTS_MOST};
 use rm_base::listed::Listed;
 use rm_base::name::Name;
 use rm_base::select::Op;
-use rm_base::value::Value;
+use rm_base::text::Text;
 use std::alloc::{AllocError, Global};
 
 /// A column as a text names it.
@@ -34,11 +34,12 @@ pub struct RawTable {
     pub call: Name,
 }
 
-/// What is compared.
+/// What is compared: a column, or what stands in the text.
 #[derive(Debug, Drop)]
 pub enum RawOperand {
     Column(Reference),
-    Fixed(Value),
+    Int(i64),
+    Words(Text),
 }
 
 /// A comparison.
