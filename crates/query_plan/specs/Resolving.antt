@@ -1,5 +1,5 @@
 -- what the names of a SELECT stand for: its plan, or the first refusal in the order of its text
-use Rattle.std.specs.Prelude.{ℕ, ◌+◌, ◌-◌, Bool, true, false, ◌&&◌, not, nat_eq, nat_lt, if◌then◌else◌, Option, Some, None, is_none, unwrap_or, position, count_by, map, Result, Ok, Err, List, [], ◌∷◌, ◌++◌}
+use Rattle.std.specs.Prelude.{◌≡◌, ℕ, ◌+◌, ◌-◌, Bool, true, false, ◌&&◌, not, nat_eq, nat_le, nat_lt, if◌then◌else◌, Option, Some, None, is_none, unwrap_or, position, count_by, map, Result, Ok, Err, List, [], ◌∷◌, ◌++◌}
 use Rattle.std.specs.List.{list_any}
 use Rattle.std.specs.Str.{bytes_eq}
 use Rattle.rm_base.specs.declared.catalog.CatalogTable.{CatalogTable}
@@ -27,6 +27,8 @@ use Rattle.query_plan.specs.declared.raw.RawSelect.{RawSelect}
 use Rattle.query_plan.specs.declared.raw.RawTable.{RawTable}
 use Rattle.query_plan.specs.declared.raw.RawTest.{RawTest}
 use Rattle.query_plan.specs.declared.raw.Reference.{Reference}
+use Rattle.query_plan.specs.declared.reading.ReadError.{ReadError}
+use Rattle.query_plan.specs.declared.reading.ReadError.TheVariants.{Refused, Memory}
 use Rattle.query_plan.specs.declared.resolving.Compared.{Compared}
 use Rattle.query_plan.specs.declared.scope.Found.{Found}
 use Rattle.query_plan.specs.declared.scope.Here.{Here}
@@ -65,10 +67,14 @@ is_elsewhere r found h = is_meant r h && not (nat_eq h.table found.table)
 abbrev pub is_ambiguous : Reference → Found → List Here → Bool
 is_ambiguous r found scope = is_none r.qualifier && list_any (is_elsewhere r found) scope
 
+-- a table is called so
+abbrev pub is_call : List RawTable → Name → Bool
+is_call tables name = list_any (λ t. same_name t.call name) tables
+
 -- which name of a reference is unknown: what its table is called by, or else its column
 abbrev pub unknown_name : List RawTable → Option Name → Name → Name
 unknown_name tables None column = column
-unknown_name tables (Some q) column = if list_any (λ t. same_name t.call q) tables then column else q
+unknown_name tables (Some q) column = if is_call tables q then column else q
 
 -- the column that a reference names
 abbrev pub looked_up : List RawTable → List Here → Reference → Option Found → Result Found Refusal
@@ -159,3 +165,14 @@ planned raw scope =
 -- what a SELECT means over a catalog
 abbrev pub resolved : List CatalogTable → RawSelect → Result Select Refusal
 resolved catalog raw = and_then (scope_from catalog 0 raw.tables) (λ scope. planned raw scope)
+
+-- what is answered is what the definition gives; want of memory says nothing of it
+abbrev pub IsAnswer : {A : Type 0} → Result A Refusal → Result A ReadError → Type 0
+IsAnswer given (Ok x) = given ≡ Ok x
+IsAnswer given (Err (Refused why)) = given ≡ Err why
+IsAnswer given (Err Memory) = Unit {0}
+
+-- a key names its output column, or is the number of one of so many
+abbrev pub counts_output : ℕ → KeyBy → Bool
+counts_output count (by.Name n) = true
+counts_output count (by.Number n) = nat_le n count

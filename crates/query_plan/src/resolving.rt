@@ -1,9 +1,284 @@
-use rm_base::catalog::ColumnKind;
-use rm_base::select::Operand;
+//! What the names of a SELECT stand for.
+
+ghost use Rattle.std.specs.Prelude.{◌≡◌, ◌≤◌, ◌+◌, ℕ, List, Some, true, false, length, nat_lt, IfOk};
+ghost use Rattle.std.specs.List.{list_all, list_any};
+ghost use Rattle.std.specs.Option.{option_copied};
+ghost use Rattle.std.specs.Str.{bytes_eq};
+ghost use Rattle.rm_base.specs.Name.{name_text, same_name};
+ghost use Rattle.rm_base.specs.declared.limits.TheConstants.{ROW_VALUES_MOST};
+ghost use Rattle.query_plan.specs.Scope.{scope_from};
+ghost use Rattle.query_plan.specs.Resolving.{IsAnswer, all_from, column_of, compared_at, counts_output, each, found_from, is_ambiguous, is_call, is_called, is_elsewhere, is_meant, item_name, item_of, items_of, key_of, looked_up, named_output, names_of, operand_of, output_of, planned, resolved, same_kind, test_of, unknown_name};
+
+use crate::raw::{KeyBy, RawItem, RawKey, RawOperand, RawSelect, RawTable, RawTest, Reference};
+use crate::reading::ReadError;
+use crate::scope::{Found, Here, table_named};
+use rm_base::catalog::{Catalog, CatalogColumn, ColumnKind};
+use rm_base::limits::ROW_VALUES_MOST;
+use rm_base::listed::Listed;
+use rm_base::name::Name;
+use rm_base::refusal::Refusal;
+use rm_base::select::{Item, Op, Operand, OrderKey, OrderSpec, Select, Test};
+use rm_base::text::Text;
+use rm_base::value::Value;
+use std::alloc::{AllocError, Global};
 
 /// An operand, and whether it is an Int or a Text.
 #[derive(Debug, Drop)]
 pub struct Compared {
     pub operand: Operand,
     pub kind: ColumnKind,
+}
+
+fn is_called(qualifier: Option<Name>, call: Name) -> bool
+    ensures { result ≡ is_called qualifier call }
+{
+    match qualifier {
+        None => true,
+        Some(qualifier) => call.same(qualifier),
+    }
+}
+
+/// Whether the reference may mean the column.
+fn is_meant(reference: Reference, here: &Here) -> bool
+    ensures { result ≡ is_meant reference here.now }
+{
+    here.column.name.same(reference.column) && is_called(reference.qualifier, here.call)
+}
+
+/// The first column that the reference may mean.
+fn found(reference: Reference, scope: &[Here]) -> Option<Found>
+    requires { length scope.now ≤ ROW_VALUES_MOST }
+    ensures { result ≡ found_from 0 reference scope.now }
+{
+    for (i, here) in scope.iter().enumerate() {
+        if is_meant(reference, here) {
+            return Some(Found {
+                column: i as u32,
+                table: here.table,
+                kind: here.column.kind,
+            });
+        }
+    }
+    None
+}
+
+/// Whether the reference may mean a column of another table too.
+fn is_elsewhere(reference: Reference, found: Found, here: &Here) -> bool
+    ensures { result ≡ is_elsewhere reference found here.now }
+{
+    is_meant(reference, here) && here.table != found.table
+}
+
+/// Whether the reference may mean columns of two tables.
+fn is_twofold(reference: Reference, found: Found, scope: &[Here]) -> bool
+    ensures { result ≡ list_any (is_elsewhere reference found) scope.now }
+{
+    scope
+        .iter()
+        .any(|here| is_elsewhere(reference, found, here))
+}
+
+fn is_ambiguous(reference: Reference, found: Found, scope: &[Here]) -> bool
+    ensures { result ≡ is_ambiguous reference found scope.now }
+{
+    reference.qualifier.is_none() && is_twofold(reference, found, scope)
+}
+
+/// Whether a table is called so.
+fn is_call(tables: &[RawTable], name: Name) -> bool
+    ensures { result ≡ is_call tables.now name }
+{
+    tables.iter().any(|table| table.call.same(name))
+}
+
+/// Which name of a reference is unknown.
+fn unknown_name(tables: &[RawTable], qualifier: Option<Name>, column: Name) -> Name
+    ensures { result ≡ unknown_name tables.now qualifier column }
+{
+    match qualifier {
+        None => column,
+        Some(qualifier) => {
+            if is_call(tables, qualifier) {
+                column
+            } else {
+                qualifier
+            }
+        }
+    }
+}
+
+/// The column that a reference names.
+fn column_of(tables: &[RawTable], scope: &[Here], reference: Reference) -> Result<Found, Refusal>
+    requires { length scope.now ≤ ROW_VALUES_MOST }
+    ensures { result ≡ column_of tables.now scope.now reference }
+{
+    match found(reference, scope) {
+        None => Err(Refusal::NoSuchColumn(unknown_name(
+            tables,
+            reference.qualifier,
+            reference.column,
+        ))),
+        Some(found) if is_ambiguous(reference, found, scope) => {
+            Err(Refusal::Ambiguous(reference.column))
+        }
+        Some(found) => Ok(found),
+    }
+}
+
+/// What is compared.
+fn operand_of(
+    alloc: Global,
+    tables: &[RawTable],
+    scope: &[Here],
+    operand: &RawOperand,
+) -> Result<Compared, ReadError>
+    requires { length scope.now ≤ ROW_VALUES_MOST }
+    ensures { IsAnswer (operand_of tables.now scope.now operand.now) result }
+{
+    match operand {
+        RawOperand::Column(reference) => match column_of(tables, scope, *reference) {
+            Ok(found) => Ok(Compared {
+                operand: Operand::Column(found.column),
+                kind: found.kind,
+            }),
+            Err(refusal) => Err(ReadError::Refused(refusal)),
+        },
+        RawOperand::Int(number) => Ok(Compared {
+            operand: Operand::Fixed(Value::Int(*number)),
+            kind: ColumnKind::Int,
+        }),
+        RawOperand::Words(text) => match text.copy(alloc) {
+            Ok(text) => Ok(Compared {
+                operand: Operand::Fixed(Value::Words(text)),
+                kind: ColumnKind::Words,
+            }),
+            Err(_) => Err(ReadError::Memory),
+        },
+    }
+}
+
+fn same_kind(left: ColumnKind, right: ColumnKind) -> bool
+    ensures { result ≡ same_kind left right }
+{
+    matches!(
+        (left, right),
+        (ColumnKind::Int, ColumnKind::Int) | (ColumnKind::Words, ColumnKind::Words)
+    )
+}
+
+fn compared_at(place: u64, op: Op, left: Compared, right: Compared) -> Result<Test, Refusal>
+    ensures { result ≡ compared_at place op left right }
+{
+    if same_kind(left.kind, right.kind) {
+        Ok(Test {
+            left: left.operand,
+            op,
+            right: right.operand,
+        })
+    } else {
+        Err(Refusal::TypeClash(place))
+    }
+}
+
+/// A comparison.
+fn test_of(
+    alloc: Global,
+    tables: &[RawTable],
+    scope: &[Here],
+    test: &RawTest,
+) -> Result<Test, ReadError>
+    requires { length scope.now ≤ ROW_VALUES_MOST }
+    ensures { IsAnswer (test_of tables.now scope.now test.now) result }
+{
+    let left = match operand_of(alloc, tables, scope, &test.left) {
+        Ok(left) => left,
+        Err(error) => return Err(error),
+    };
+    let right = match operand_of(alloc, tables, scope, &test.right) {
+        Ok(right) => right,
+        Err(error) => return Err(error),
+    };
+    match compared_at(test.place, test.op, left, right) {
+        Ok(test) => Ok(test),
+        Err(refusal) => Err(ReadError::Refused(refusal)),
+    }
+}
+
+fn tests_of(
+    alloc: Global,
+    tables: &[RawTable],
+    scope: &[Here],
+    tests: &[RawTest],
+) -> Result<Listed<Test>, ReadError>
+    requires { length scope.now ≤ ROW_VALUES_MOST }
+    ensures { IsAnswer (each (test_of tables.now scope.now) tests.now) result }
+{
+    let mut out = Listed::new(alloc);
+    for test in tests {
+        match test_of(alloc, tables, scope, test) {
+            Ok(test) => out.push(test)?,
+            Err(error) => return Err(error),
+        }
+    }
+    Ok(out)
+}
+
+/// An item of the select list.
+fn item_of(tables: &[RawTable], scope: &[Here], item: &RawItem) -> Result<Item, Refusal>
+    requires { length scope.now ≤ ROW_VALUES_MOST }
+    ensures { result ≡ item_of tables.now scope.now item.now }
+{
+    match column_of(tables, scope, item.column) {
+        Ok(found) => Ok(Item::Column(found.column)),
+        Err(refusal) => Err(refusal),
+    }
+}
+
+fn listed_items(
+    alloc: Global,
+    tables: &[RawTable],
+    scope: &[Here],
+    items: &[RawItem],
+) -> Result<Listed<Item>, ReadError>
+    requires { length scope.now ≤ ROW_VALUES_MOST }
+    ensures { IsAnswer (each (item_of tables.now scope.now) items.now) result }
+{
+    let mut out = Listed::new(alloc);
+    for item in items {
+        match item_of(tables, scope, item) {
+            Ok(item) => out.push(item)?,
+            Err(refusal) => return Err(ReadError::Refused(refusal)),
+        }
+    }
+    Ok(out)
+}
+
+/// All columns.
+fn all_items(alloc: Global, scope: &[Here]) -> Result<Listed<Item>, AllocError>
+    requires { length scope.now ≤ ROW_VALUES_MOST }
+    ensures { IfOk result (λ items. items ≡ all_from 0 scope.now) }
+{
+    let mut items = Listed::new(alloc);
+    for (i, _) in scope.iter().enumerate() {
+        items.push(Item::Column(i as u32))?;
+    }
+    Ok(items)
+}
+
+/// The output columns.
+fn items_of(
+    alloc: Global,
+    raw: &RawSelect,
+    scope: &[Here],
+) -> Result<Listed<Item>, ReadError>
+    requires { length scope.now ≤ ROW_VALUES_MOST }
+    ensures { IsAnswer (items_of raw.now.tables scope.now raw.now.all raw.now.items) result }
+{
+    match raw.all {
+        None => listed_items(alloc, raw.tables.as_slice(), scope, raw.items.as_slice()),
+        Some(_) => match all_items(alloc, scope) {
+            Ok(items) => Ok(items),
+            Err(_) => Err(ReadError::Memory),
+        },
+    }
 }
