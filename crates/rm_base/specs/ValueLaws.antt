@@ -1,10 +1,9 @@
 -- The laws of the order of values, of rows and of lists of rows.
 use Rattle.std.specs.Prelude.{◌≡◌, Bool, true, ◌&&◌, List, [], ◌∷◌, Some, nat_eq, refl}
-use Rattle.std.specs.Hash as fed
 use Rattle.std.proofs.Common.{sym, ap, true≢false}
 use Rattle.std.specs.declared.cmp.Ordering.{Ordering}
 use Rattle.std.specs.declared.cmp.Ordering.TheVariants.{Less, Equal, Greater}
-use Rattle.std.specs.Ordering.{nat_cmp, int_cmp, int_eq, is_eq, ordering_then}
+use Rattle.std.specs.Ordering.{int_eq, is_eq, ordering_then}
 use Rattle.std.specs.Cmp.{IsEquivalence, IsTotalOrder, IsPartialOrder, and_equiv, on_equiv, then_total, on_total, nat_eq_equiv, int_eq_equiv, nat_cmp_total, int_cmp_total, partial_order_from_agreeing_total, unsigned_ties, signed_Decides, unsigned_Decides, first_so, second_so}
 use Rattle.std.specs.Cmp.Lexicographic.{pointwise, nat_list_eq_equiv, nat_list_cmp_total, lists_equiv, lists_total, lists_ties, texts_ties, pointwise_decides}
 use Rattle.rm_base.specs.declared.value.Value.{Value}

@@ -7,4 +7,5 @@ pub mod free_bytes;
 pub mod history;
 pub mod readings;
 pub mod room;
+pub mod select_examples;
 pub mod state;

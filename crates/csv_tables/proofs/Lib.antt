@@ -1,0 +1,4 @@
+pub mod CellLemmas
+pub mod HeaderLemmas
+pub mod RecordsLemmas
+pub mod RowLemmas
