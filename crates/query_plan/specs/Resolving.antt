@@ -1,6 +1,6 @@
 -- what the names of a SELECT stand for: its plan, or the first refusal in the order of its text
-use Rattle.std.specs.Prelude.{◌≡◌, ℕ, ◌+◌, ◌-◌, Bool, true, false, ◌&&◌, not, nat_eq, nat_le, nat_lt, if◌then◌else◌, Option, Some, None, is_none, unwrap_or, position, count_by, map, Result, Ok, Err, List, [], ◌∷◌, ◌++◌}
-use Rattle.std.specs.List.{list_any}
+use Rattle.std.specs.Prelude.{◌≡◌, ℕ, ◌+◌, ◌-◌, Bool, true, false, ◌&&◌, not, nat_eq, nat_le, nat_lt, if◌then◌else◌, Option, Some, None, is_none, unwrap_or, count_by, map, Result, Ok, Err, List, [], ◌∷◌, ◌++◌}
+use Rattle.std.specs.List.{list_any, position_from}
 use Rattle.std.specs.Str.{bytes_eq}
 use Rattle.rm_base.specs.declared.catalog.CatalogTable.{CatalogTable}
 use Rattle.rm_base.specs.declared.catalog.ColumnKind.{ColumnKind}
@@ -124,13 +124,20 @@ items_of tables scope None items = each (item_of tables scope) items
 items_of tables scope (Some place) items = Ok (all_from 0 scope)
 
 -- an item's name: the one behind AS, or else its column's
+abbrev pub output_name : RawItem → Name
+output_name i = unwrap_or i.name i.column.column
+
 abbrev pub item_name : RawItem → List ℕ
-item_name i = name_text (unwrap_or i.name i.column.column)
+item_name i = name_text (output_name i)
+
+-- a column's name
+abbrev pub column_name : Here → List ℕ
+column_name h = name_text h.column.name
 
 -- the names of the output columns
 abbrev pub names_of : List Here → Option ℕ → List RawItem → List (List ℕ)
 names_of scope None items = map item_name items
-names_of scope (Some place) items = map (λ h. name_text h.column.name) scope
+names_of scope (Some place) items = map column_name scope
 
 -- the output column that a name means, where it stands first
 abbrev pub named_output : List (List ℕ) → Name → Option ℕ → Result ℕ Refusal
@@ -139,7 +146,7 @@ named_output names n (Some i) = if nat_lt 1 (count_by (bytes_eq (name_text n)) n
 
 -- the output column that a key means
 abbrev pub output_of : List (List ℕ) → KeyBy → Result ℕ Refusal
-output_of names (by.Name n) = named_output names n (position (bytes_eq (name_text n)) names)
+output_of names (by.Name n) = named_output names n (position_from (bytes_eq (name_text n)) 0 names)
 output_of names (by.Number n) = Ok (n - 1)
 
 -- a key of ORDER BY

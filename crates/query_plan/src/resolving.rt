@@ -1,13 +1,12 @@
 //! What the names of a SELECT stand for.
 
-ghost use Rattle.std.specs.Prelude.{◌≡◌, ◌≤◌, ◌+◌, ℕ, List, Some, true, false, length, nat_lt, IfOk};
-ghost use Rattle.std.specs.List.{list_all, list_any};
-ghost use Rattle.std.specs.Option.{option_copied};
+ghost use Rattle.std.specs.Prelude.{◌≡◌, ◌≤◌, ◌++◌, ◌<◌, true, length, map, count_by, IfOk, IfSome, OnOk};
+ghost use Rattle.std.specs.List.{list_all, list_any, position_from};
 ghost use Rattle.std.specs.Str.{bytes_eq};
-ghost use Rattle.rm_base.specs.Name.{name_text, same_name};
+ghost use Rattle.rm_base.specs.Name.{name_text};
 ghost use Rattle.rm_base.specs.declared.limits.TheConstants.{ROW_VALUES_MOST};
-ghost use Rattle.query_plan.specs.Scope.{scope_from};
-ghost use Rattle.query_plan.specs.Resolving.{IsAnswer, all_from, column_of, compared_at, counts_output, each, found_from, is_ambiguous, is_call, is_called, is_elsewhere, is_meant, item_name, item_of, items_of, key_of, looked_up, named_output, names_of, operand_of, output_of, planned, resolved, same_kind, test_of, unknown_name};
+ghost use Rattle.query_plan.specs.Scope.{columns_here, scope_from};
+ghost use Rattle.query_plan.specs.Resolving.{IsAnswer, all_from, column_name, column_of, compared_at, counts_output, each, found_from, is_ambiguous, is_call, is_called, is_elsewhere, is_meant, item_name, item_of, items_of, key_of, looked_up, names_of, operand_of, output_name, output_of, planned, resolved, same_kind, test_of, unknown_name};
 
 use crate::raw::{KeyBy, RawItem, RawKey, RawOperand, RawSelect, RawTable, RawTest, Reference};
 use crate::reading::ReadError;
@@ -281,4 +280,171 @@ fn items_of(
             Err(_) => Err(ReadError::Memory),
         },
     }
+}
+
+/// An item's name.
+fn output_name(item: &RawItem) -> Name
+    ensures { result ≡ output_name item.now }
+{
+    item.name.unwrap_or(item.column.column)
+}
+
+fn name_text(alloc: Global, name: Name) -> Result<Text, AllocError>
+    ensures { IfOk result (λ text. text ≡ name_text name) }
+{
+    Ok(Text::of(String::from_str(alloc, name.as_str())?))
+}
+
+fn listed_names(alloc: Global, items: &[RawItem]) -> Result<Listed<Text>, AllocError>
+    ensures { IfOk result (λ names. names ≡ map item_name items.now) }
+{
+    let mut names = Listed::new(alloc);
+    for item in items {
+        names.push(name_text(alloc, output_name(item))?)?;
+    }
+    Ok(names)
+}
+
+fn all_names(alloc: Global, scope: &[Here]) -> Result<Listed<Text>, AllocError>
+    ensures { IfOk result (λ names. names ≡ map column_name scope.now) }
+{
+    let mut names = Listed::new(alloc);
+    for here in scope {
+        names.push(name_text(alloc, here.column.name)?)?;
+    }
+    Ok(names)
+}
+
+/// The names of the output columns.
+fn names_of(alloc: Global, raw: &RawSelect, scope: &[Here]) -> Result<Listed<Text>, AllocError>
+    ensures { IfOk result (λ names. names ≡ names_of scope.now raw.now.all raw.now.items) }
+{
+    match raw.all {
+        None => listed_names(alloc, raw.items.as_slice()),
+        Some(_) => all_names(alloc, scope),
+    }
+}
+
+fn is_named(name: Name, text: &Text) -> bool
+    ensures { result ≡ bytes_eq (name_text name) text.now }
+{
+    name.as_str() == text.as_str()
+}
+
+/// Which of the names is this one first.
+fn first_named(names: &[Text], name: Name) -> Option<usize>
+    ensures value { result ≡ position_from (bytes_eq (name_text name)) 0 names.now }
+    ensures within { IfSome result (λ i. i < length names.now) }
+{
+    names.iter().position(|text| is_named(name, text))
+}
+
+/// How many of the names are this one.
+fn count_named(names: &[Text], name: Name) -> usize
+    ensures { result ≡ count_by (bytes_eq (name_text name)) names.now }
+{
+    names.iter().filter(|text| is_named(name, text)).count()
+}
+
+/// The output column that a name means.
+fn named_output(names: &[Text], name: Name) -> Result<u32, Refusal>
+    requires { length names.now ≤ ROW_VALUES_MOST }
+    ensures { result ≡ output_of names.now (KeyBy.Name name) }
+{
+    match first_named(names, name) {
+        None => Err(Refusal::NoSuchColumn(name)),
+        Some(_) if count_named(names, name) > 1 => Err(Refusal::Ambiguous(name)),
+        Some(i) => Ok(i as u32),
+    }
+}
+
+/// The output column that a key means.
+fn output_of(names: &[Text], by: KeyBy) -> Result<u32, Refusal>
+    requires few { length names.now ≤ ROW_VALUES_MOST }
+    requires counts { counts_output (length names.now) by ≡ true }
+    ensures { result ≡ output_of names.now by }
+{
+    match by {
+        KeyBy::Name(name) => named_output(names, name),
+        KeyBy::Number(number) => Ok(number.saturating_sub(1) as u32),
+    }
+}
+
+/// A key of ORDER BY.
+fn key_of(names: &[Text], key: &RawKey) -> Result<OrderKey, Refusal>
+    requires few { length names.now ≤ ROW_VALUES_MOST }
+    requires counts { counts_output (length names.now) key.now.by ≡ true }
+    ensures { result ≡ key_of names.now key.now }
+{
+    match output_of(names, key.by) {
+        Ok(column) => Ok(OrderKey {
+            column,
+            falling: key.falling,
+        }),
+        Err(refusal) => Err(refusal),
+    }
+}
+
+fn keys_of(alloc: Global, names: &[Text], keys: &[RawKey]) -> Result<Listed<OrderKey>, ReadError>
+    requires few { length names.now ≤ ROW_VALUES_MOST }
+    requires counts { list_all (λ k. counts_output (length names.now) k.by) keys.now ≡ true }
+    ensures { IsAnswer (each (key_of names.now) keys.now) result }
+{
+    let mut out = Listed::new(alloc);
+    for key in keys {
+        match key_of(names, key) {
+            Ok(key) => out.push(key)?,
+            Err(refusal) => return Err(ReadError::Refused(refusal)),
+        }
+    }
+    Ok(out)
+}
+
+fn table_names(alloc: Global, tables: &[RawTable]) -> Result<Listed<Name>, AllocError>
+    ensures { IfOk result (λ names. names ≡ map (λ t. t.name) tables.now) }
+{
+    let mut names = Listed::new(alloc);
+    for table in tables {
+        names.push(table.name)?;
+    }
+    Ok(names)
+}
+
+/// Puts a table's columns behind the others.
+fn push_columns(
+    scope: &mut Listed<Here>,
+    table: usize,
+    call: Name,
+    columns: &[CatalogColumn],
+) -> Result<(), AllocError>
+    ensures { OnOk result (scope.new ≡ scope.old ++ columns_here table call columns.now) }
+{
+    for column in columns {
+        scope.push(Here {
+            table,
+            call,
+            column: *column,
+        })?;
+    }
+    Ok(())
+}
+
+/// The columns of the tables in order.
+fn scope_of(
+    alloc: Global,
+    catalog: &Catalog,
+    tables: &[RawTable],
+) -> Result<Listed<Here>, ReadError>
+    ensures { IsAnswer (scope_from catalog.now 0 tables.now) result }
+{
+    let mut scope = Listed::new(alloc);
+    for (i, table) in tables.iter().enumerate() {
+        match table_named(catalog, table.name) {
+            None => return Err(ReadError::Refused(Refusal::NoSuchTable(table.name))),
+            Some(found) => {
+                push_columns(&mut scope, i, table.call, found.columns.as_slice())?;
+            }
+        }
+    }
+    Ok(scope)
 }
