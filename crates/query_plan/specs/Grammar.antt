@@ -101,11 +101,16 @@ pub data IsKey (catalog : List CatalogTable) (raw : RawSelect) : RawKey → List
   falling : (a : ℕ) (k : KeyBy) (ws : List Word) → IsKeyBy catalog raw k ws
       → IsKey catalog raw (record { by = k; falling = true }) (ws ++ key_at a (codes "DESC") ∷ [])
 
+-- an item of the select list is due
+abbrev pub takes_item : Slot → Bool
+takes_item slot.List = true
+takes_item slot.Item = true
+takes_item _ = false
+
 -- what a slot takes, behind what was read
 pub data IsPart (catalog : List CatalogTable) (raw : RawSelect) : Slot → RawPart → List Word → Type 0 where
   all : (a : ℕ) → IsPart catalog raw slot.List (part.All a) (sign_at a symbol.Star ∷ [])
-  first_item : (i : RawItem) (ws : List Word) → IsItem i ws → IsPart catalog raw slot.List (part.Item i) ws
-  next_item : (i : RawItem) (ws : List Word) → IsItem i ws → IsPart catalog raw slot.Item (part.Item i) ws
+  item : (s : Slot) (i : RawItem) (ws : List Word) → takes_item s ≡ true → IsItem i ws → IsPart catalog raw s (part.Item i) ws
   table : (t : RawTable) (ws : List Word) → IsTable t ws → IsPart catalog raw slot.Table (part.Table t) ws
   test : (t : RawTest) (ws : List Word) → IsTest t ws → IsPart catalog raw slot.Test (part.Test t) ws
   key : (k : RawKey) (ws : List Word) → IsKey catalog raw k ws → IsPart catalog raw slot.Key (part.Key k) ws

@@ -1,10 +1,11 @@
 -- what the names of a SELECT stand for: its plan, or the first refusal in the order of its text
-use Rattle.std.specs.Prelude.{◌≡◌, ℕ, ◌+◌, ◌-◌, Bool, true, false, ◌&&◌, not, nat_eq, nat_le, nat_lt, if◌then◌else◌, Option, Some, None, is_none, unwrap_or, count_by, map, Result, Ok, Err, List, [], ◌∷◌, ◌++◌}
-use Rattle.std.specs.List.{list_any, position_from}
+use Rattle.std.specs.Prelude.{◌≡◌, ◌≤◌, ℕ, ◌+◌, ◌-◌, Bool, true, false, ◌&&◌, not, nat_eq, nat_le, nat_lt, if◌then◌else◌, Option, Some, None, is_none, unwrap_or, count_by, map, Result, Ok, Err, List, [], ◌∷◌, length}
+use Rattle.std.specs.List.{list_all, list_any, position_from}
 use Rattle.std.specs.Str.{bytes_eq}
 use Rattle.rm_base.specs.declared.catalog.CatalogTable.{CatalogTable}
 use Rattle.rm_base.specs.declared.catalog.ColumnKind.{ColumnKind}
 use Rattle.rm_base.specs.declared.catalog.ColumnKind.TheVariants as kind
+use Rattle.rm_base.specs.declared.limits.TheConstants.{ITEMS_MOST, SELECT_TABLES_MOST}
 use Rattle.rm_base.specs.declared.name.Name.{Name}
 use Rattle.rm_base.specs.declared.refusal.Refusal.{Refusal}
 use Rattle.rm_base.specs.declared.refusal.Refusal.TheVariants.{NoSuchColumn, Ambiguous, TypeClash}
@@ -32,7 +33,7 @@ use Rattle.query_plan.specs.declared.reading.ReadError.TheVariants.{Refused, Mem
 use Rattle.query_plan.specs.declared.resolving.Compared.{Compared}
 use Rattle.query_plan.specs.declared.scope.Found.{Found}
 use Rattle.query_plan.specs.declared.scope.Here.{Here}
-use Rattle.query_plan.specs.Scope.{scope_from}
+use Rattle.query_plan.specs.Scope.{is_listed, scope_from}
 
 -- the answer of the next step, where there is no refusal yet
 abbrev pub and_then : {A B : Type 0} → Result A Refusal → (A → Result B Refusal) → Result B Refusal
@@ -183,3 +184,19 @@ IsAnswer given (Err Memory) = Unit {0}
 abbrev pub counts_output : ℕ → KeyBy → Bool
 counts_output count (by.Name n) = true
 counts_output count (by.Number n) = nat_le n count
+
+-- the same of the key
+abbrev pub counts_among : ℕ → RawKey → Bool
+counts_among count k = counts_output count k.by
+
+-- a key names its output column, or is the number of one
+abbrev pub is_key_listed : List CatalogTable → RawSelect → KeyBy → Bool
+is_key_listed catalog raw (by.Name n) = true
+is_key_listed catalog raw (by.Number n) = is_listed catalog raw n
+
+-- what holds of each SELECT that words are: it has no more tables and items than it may have, and the numbers among its
+-- keys are those of output columns
+pub record IsRaw (catalog : List CatalogTable) (raw : RawSelect) : Type 0 where
+  pub few_tables : length raw.tables ≤ SELECT_TABLES_MOST
+  pub few_items : length raw.items ≤ ITEMS_MOST
+  pub listed : list_all (λ k. is_key_listed catalog raw k.by) raw.keys ≡ true

@@ -7,8 +7,12 @@
 #![tactic(auto)]
 
 mod part;
+pub mod plan;
 mod progress;
 mod raw;
 mod scope;
 pub mod reading;
 mod resolving;
+
+#[cfg(test)]
+mod tests;

@@ -4,15 +4,15 @@ ghost use Rattle.std.specs.Prelude.{◌≡◌, ◌≤◌, ◌++◌, ◌<◌, tru
 ghost use Rattle.std.specs.List.{list_all, list_any, position_from};
 ghost use Rattle.std.specs.Str.{bytes_eq};
 ghost use Rattle.rm_base.specs.Name.{name_text};
-ghost use Rattle.rm_base.specs.declared.limits.TheConstants.{ROW_VALUES_MOST};
 ghost use Rattle.query_plan.specs.Scope.{columns_here, scope_from};
-ghost use Rattle.query_plan.specs.Resolving.{IsAnswer, all_from, column_name, column_of, compared_at, counts_output, each, found_from, is_ambiguous, is_call, is_called, is_elsewhere, is_meant, item_name, item_of, items_of, key_of, looked_up, names_of, operand_of, output_name, output_of, planned, resolved, same_kind, test_of, unknown_name};
+ghost use Rattle.query_plan.specs.Resolving.{IsAnswer, IsRaw, all_from, column_name, column_of, compared_at, counts_among, counts_output, each, found_from, is_ambiguous, is_call, is_called, is_elsewhere, is_meant, item_name, item_of, items_of, key_of, looked_up, names_of, operand_of, output_name, output_of, planned, resolved, same_kind, test_of, unknown_name};
 
+use crate::plan::Plan;
 use crate::raw::{KeyBy, RawItem, RawKey, RawOperand, RawSelect, RawTable, RawTest, Reference};
 use crate::reading::ReadError;
 use crate::scope::{Found, Here, table_named};
 use rm_base::catalog::{Catalog, CatalogColumn, ColumnKind};
-use rm_base::limits::ROW_VALUES_MOST;
+use rm_base::limits::{ITEMS_MOST, ROW_VALUES_MOST};
 use rm_base::listed::Listed;
 use rm_base::name::Name;
 use rm_base::refusal::Refusal;
@@ -387,7 +387,7 @@ fn key_of(names: &[Text], key: &RawKey) -> Result<OrderKey, Refusal>
 
 fn keys_of(alloc: Global, names: &[Text], keys: &[RawKey]) -> Result<Listed<OrderKey>, ReadError>
     requires few { length names.now ≤ ROW_VALUES_MOST }
-    requires counts { list_all (λ k. counts_output (length names.now) k.by) keys.now ≡ true }
+    requires counts { list_all (counts_among (length names.now)) keys.now ≡ true }
     ensures { IsAnswer (each (key_of names.now) keys.now) result }
 {
     let mut out = Listed::new(alloc);
@@ -447,4 +447,59 @@ fn scope_of(
         }
     }
     Ok(scope)
+}
+
+/// The plan of a SELECT whose tables have these columns.
+fn planned(alloc: Global, raw: &RawSelect, scope: &[Here]) -> Result<Select, ReadError>
+    requires scope { length scope.now ≤ ROW_VALUES_MOST }
+    requires items { length raw.now.items ≤ ITEMS_MOST }
+    requires counts { list_all (counts_among (length (names_of scope.now raw.now.all raw.now.items))) raw.now.keys ≡ true }
+    ensures { IsAnswer (planned raw.now scope.now) result }
+{
+    let tables = raw.tables.as_slice();
+    let items = match items_of(alloc, raw, scope) {
+        Ok(items) => items,
+        Err(error) => return Err(error),
+    };
+    let tests = match tests_of(alloc, tables, scope, raw.tests.as_slice()) {
+        Ok(tests) => tests,
+        Err(error) => return Err(error),
+    };
+    let Ok(names) = names_of(alloc, raw, scope) else {
+        return Err(ReadError::Memory);
+    };
+    let keys = match keys_of(alloc, names.as_slice(), raw.keys.as_slice()) {
+        Ok(keys) => keys,
+        Err(error) => return Err(error),
+    };
+    let Ok(tables) = table_names(alloc, tables) else {
+        return Err(ReadError::Memory);
+    };
+    Ok(Select {
+        tables,
+        tests,
+        items,
+        names,
+        groups: None,
+        order: OrderSpec {
+            keys,
+            limit: raw.limit,
+        },
+    })
+}
+
+/// The plan of a SELECT that words are.
+pub fn resolved(alloc: Global, catalog: &Catalog, raw: &RawSelect) -> Result<Plan, ReadError>
+    requires { IsRaw catalog.now raw.now }
+    ensures { IsAnswer (resolved catalog.now raw.now) result }
+{
+    let _tables = catalog.as_slice();
+    let scope = match scope_of(alloc, catalog, raw.tables.as_slice()) {
+        Ok(scope) => scope,
+        Err(error) => return Err(error),
+    };
+    match planned(alloc, raw, scope.as_slice()) {
+        Ok(select) => Ok(Plan::of(select)),
+        Err(error) => Err(error),
+    }
 }
