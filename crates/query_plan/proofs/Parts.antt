@@ -84,12 +84,12 @@ IsPartial catalog raw s (partial.Key k) ws = (slot.Key ≡ s) × IsKey catalog r
 IsPartial catalog raw s (partial.Limit n) ws = (slot.Limit ≡ s) × ((nat_le n LIMIT_MOST ≡ true) × ((a : ℕ) × (ws ≡ number_at a n ∷ [])))
 
 -- a whole operand makes its part
-operand-means : (catalog : List CatalogTable) (raw : RawSelect) (which : Side) (o : RawOperand) (us vs : List Word)
+pub operand-means : (catalog : List CatalogTable) (raw : RawSelect) (which : Side) (o : RawOperand) (us vs : List Word)
     → IsBeside which us → IsOperand o vs → IsPartial catalog raw slot.Test (operand_read which o) (us ++ vs)
 operand-means catalog raw _ o _ vs beside_left is = (refl, is)
 operand-means catalog raw _ o _ vs (beside_right a l s op ls left sign) is = (refl, compared a l o s op ls vs left sign is)
 
-column-means : (catalog : List CatalogTable) (raw : RawSelect) (s : Slot) (p : Purpose) (a : ℕ) (r : Reference) (us vs : List Word)
+pub column-means : (catalog : List CatalogTable) (raw : RawSelect) (s : Slot) (p : Purpose) (a : ℕ) (r : Reference) (us vs : List Word)
     → IsBefore s p a us → IsColumn a r vs → IsPartial catalog raw s (column_read p r) (us ++ vs)
 column-means catalog raw _ _ _ r _ vs (before_item s a takes) is = (takes, is)
 column-means catalog raw _ _ _ r _ vs (before_operand a which us beside) is =
