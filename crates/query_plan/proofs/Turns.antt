@@ -232,7 +232,7 @@ begun-first catalog raw slot.Key w q h = key-first catalog raw w.place w.says q 
 begun-first catalog raw slot.Limit w q h = limit-first catalog raw w.place w.says q h
 
 -- what is due begins only where there is room
-begun-room : (catalog : List CatalogTable) (raw : RawSelect) (s : Slot) (w : Word) (q : Partial) (b : Bool)
+pub begun-room : (catalog : List CatalogTable) (raw : RawSelect) (s : Slot) (w : Word) (q : Partial) (b : Bool)
     → (if b then begun_in catalog raw s w else None) ≡ Some q → (b ≡ true) × (begun_in catalog raw s w ≡ Some q)
 begun-room catalog raw s w q true h = (refl, h)
 begun-room catalog raw s w q false h = absurd (none_some q h)
