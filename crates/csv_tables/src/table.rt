@@ -51,7 +51,8 @@ impl Table {
 
     /// A list of the same columns.
     pub(crate) fn copy_columns(&self, alloc: Global) -> Result<Listed<CatalogColumn>, AllocError>
-        ensures { IfOk result (λ columns. columns ≡ self.now.columns) }
+        ensures copy { IfOk result (λ columns. columns ≡ self.now.columns) }
+        ensures narrow { length self.now.columns ≤ COLUMNS_MOST }
     {
         self.columns.copy(alloc)
     }

@@ -10,7 +10,7 @@ use Rattle.rm_words.specs.Token.{AreDigits, most}
 use Rattle.rm_words.proofs.Tokens.{digit_is}
 use Rattle.pool_sql.specs.declared.stop.Fault.TheVariants.{Form, Outside}
 use Rattle.pool_sql.specs.Amount.{bytes, bytes_in, digit_count, front_number, ms_in, percent, percent_in, size_in, span_in, unit_bytes, unit_ms, behind_digits, within}
-use Rattle.pool_sql.proofs.Results.{some_is, none_some}
+use Rattle.rm_words.proofs.Results.{some_is, none_some}
 
 -- a number is as great as it is, or above
 times_up : (n unit : ℕ) → 1 ≤ unit → n ≤ n * unit

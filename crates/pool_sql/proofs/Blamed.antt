@@ -14,7 +14,7 @@ use Rattle.pool_sql.specs.declared.setting.Setting.{Setting}
 use Rattle.pool_sql.specs.declared.setting.Setting.TheVariants as setting
 use Rattle.pool_sql.specs.declared.stop.Stop.{Stop}
 use Rattle.pool_sql.specs.declared.stop.Stop.TheVariants as stop
-use Rattle.pool_sql.specs.Names.{name_of}
+use Rattle.rm_words.specs.Names.{name_of}
 use Rattle.pool_sql.specs.Parameter.{parameter_of, takes_any}
 use Rattle.rm_base.specs.WellFormed.{is_named}
 use Rattle.pool_sql.specs.Setting.{set}
@@ -26,7 +26,7 @@ use Rattle.pool_sql.specs.Machine.{run}
 use Rattle.pool_sql.specs.Parameter.{is_affinity}
 use Rattle.pool_sql.proofs.Means.{IsMinusRead, Means, is_minus-eq, minus_read}
 use Rattle.pool_sql.proofs.Complete.{complete, due-run, run-after}
-use Rattle.pool_sql.proofs.Results.{ok_is, err_is, ok_err}
+use Rattle.rm_words.proofs.Results.{ok_is, err_is, ok_err}
 
 -- a fault is blamed, or it is Syntax
 abbrev Told : List Token → Token → Stop → Type 0

@@ -15,33 +15,26 @@ use Rattle.pool_sql.specs.declared.progress.Progress.TheVariants.{Start, NameDue
 use Rattle.pool_sql.specs.declared.progress.Verb.TheVariants as verb
 use Rattle.pool_sql.specs.declared.setting.Setting.{Setting}
 use Rattle.pool_sql.specs.declared.stop.Stop.TheVariants as stop
-use Rattle.pool_sql.specs.Names.{name_of}
+use Rattle.rm_words.specs.Names.{name_of, key, name}
 use Rattle.pool_sql.specs.Parameter.{parameter_of}
 use Rattle.rm_base.specs.WellFormed.{is_named, parameters}
 use Rattle.pool_sql.specs.Setting.{set}
-use Rattle.pool_sql.specs.Grammar.{IsBody, create_pool, alter_pool, drop_pool, create_user, alter_user, drop_user, create_role, alter_role, drop_role, grant_usage, revoke_usage, grant_role, revoke_role, named, IsValue, one, minus, IsValueDue, due, key, name, more_keys}
+use Rattle.pool_sql.specs.Grammar.{IsBody, create_pool, alter_pool, drop_pool, create_user, alter_user, drop_user, create_role, alter_role, drop_role, grant_usage, revoke_usage, grant_role, revoke_role, named, IsValue, one, minus, IsValueDue, due, more_keys}
 use Rattle.pool_sql.specs.Machine.{Stepped, begun, finish, keyed, on_name, on_negative, on_parameter, on_role_pool, on_value, role_given, step, to_key, usage_given}
-use Rattle.pool_sql.proofs.Keys.{is_key-eq}
+use Rattle.rm_words.proofs.Keys.{is_key-eq}
 use Rattle.rm_base.specs.Name.{name_text}
 use Rattle.rm_base.proofs.Names.{name_text-eq}
 use Rattle.pool_sql.specs.Names.{usage_name}
 use Rattle.pool_sql.specs.Grammar.{Spells, bare, ended}
-use Rattle.pool_sql.specs.Machine.{onward, run}
+use Rattle.rm_words.specs.Reading.{onward}
+use Rattle.rm_words.proofs.Readings.{run-after as run-after_front}
+use Rattle.pool_sql.specs.Machine.{reader, run}
 use Rattle.pool_sql.specs.Parameter.{parameter_among}
-use Rattle.pool_sql.proofs.NameLemmas.{name_called-text}
+use Rattle.rm_words.proofs.NameLemmas.{name_called-text}
 
 -- what follows is read from where the front ended
-append-turn : (r : Stepped) (xs ys : List Token) → ((q : Progress) → run q (xs ++ ys) ≡ onward (run q xs) (λ p. run p ys))
-    → onward r (λ q. run q (xs ++ ys)) ≡ onward (onward r (λ q. run q xs)) (λ p. run p ys)
-append-turn (Ok q) xs ys rest = rest q
-append-turn (Err why) xs ys rest = refl
-
-pub run-append : (p : Progress) (xs ys : List Token) → run p (xs ++ ys) ≡ onward (run p xs) (λ q. run q ys)
-run-append p [] ys = refl
-run-append p (t ∷ xs) ys = append-turn (step p t) xs ys (λ q. run-append q xs ys)
-
 pub run-after : (front rest : List Token) (p : Progress) → run Start front ≡ Ok p → run Start (front ++ rest) ≡ run p rest
-run-after front rest p h = run-append Start front rest ∙ ap (λ r. onward r (λ q. run q rest)) h
+run-after front rest p h = run-after_front reader front rest p h
 
 name_next : (p : Progress) (goes : Name → Progress) (n : Name) (rest : List Token)
     → ((t : Token) → step p t ≡ on_name goes (name_of t)) → run p (name n ∷ rest) ≡ run (goes n) rest

@@ -1,5 +1,5 @@
 -- what was read is a front of a statement, and what is refused is none
-use Rattle.std.proofs.Common.{◌≡◌, ℕ, Bool, true, false, Some, None, Ok, Err, List, [], ◌∷◌, ◌++◌, refl, sym, ◌∙◌, ap, subst, append_assoc, append-nil, codes}
+use Rattle.std.proofs.Common.{◌≡◌, ℕ, Bool, true, false, Some, None, Ok, Err, List, [], ◌∷◌, ◌++◌, refl, sym, subst, append_assoc, append-nil, codes}
 use Rattle.rm_base.specs.declared.name.Name.{Name}
 use Rattle.rm_base.specs.declared.refusal.Parameter.{Parameter}
 use Rattle.rm_base.specs.declared.refusal.Parameter.TheVariants as parameter
@@ -15,10 +15,10 @@ use Rattle.pool_sql.specs.declared.progress.Progress.TheVariants.{Start, Verbed,
 use Rattle.pool_sql.specs.declared.progress.Verb.{Verb}
 use Rattle.pool_sql.specs.declared.progress.Verb.TheVariants as verb
 use Rattle.pool_sql.specs.declared.setting.Setting.{Setting}
-use Rattle.pool_sql.specs.declared.stop.Stop.{Stop}
 use Rattle.pool_sql.specs.Setting.{set}
 use Rattle.pool_sql.specs.Value.{value_of}
-use Rattle.pool_sql.specs.Grammar.{IsBody, create_pool, alter_pool, drop_pool, create_user, alter_user, drop_user, create_role, alter_role, drop_role, grant_usage, revoke_usage, grant_role, revoke_role, named, one, minus, IsValueDue, due, key, name, more_keys}
+use Rattle.pool_sql.specs.Grammar.{IsBody, create_pool, alter_pool, drop_pool, create_user, alter_user, drop_user, create_role, alter_role, drop_role, grant_usage, revoke_usage, grant_role, revoke_role, named, one, minus, IsValueDue, due, more_keys}
+use Rattle.rm_words.specs.Names.{key, name}
 use Rattle.pool_sql.specs.Machine.{Stepped, finish, step, to_key}
 use Rattle.std.proofs.Common.{lit<}
 use Rattle.std.specs.Fmt.{decimal}
@@ -26,11 +26,14 @@ use Rattle.rm_base.specs.Name.{general, name_text}
 use Rattle.rm_words.specs.Token.{Says}
 use Rattle.rm_words.proofs.Printing.{number_says}
 use Rattle.pool_sql.specs.Grammar.{IsFront, Spells, bare, ended}
-use Rattle.pool_sql.specs.Machine.{onward, run}
+use Rattle.rm_words.specs.Reading.{onward}
+use Rattle.rm_words.proofs.Readings.{prefix-read}
+use Rattle.pool_sql.specs.Machine.{reader, run}
 use Rattle.pool_sql.proofs.Means.{IsEnded, IsKeyed, IsMinusRead, Means, is_ended, minus_read, more-means, path, role-means, set-means, step-means, usage-means}
-use Rattle.pool_sql.proofs.Saying.{AllSay, AllSay-append, name-says}
-use Rattle.pool_sql.proofs.Complete.{run-after, run-append, spells-gives}
-use Rattle.pool_sql.proofs.Results.{some_is, none_some, ok_is, err_ok, true_false}
+use Rattle.rm_words.proofs.Saying.{AllSay, AllSay-append, name-says}
+use Rattle.pool_sql.proofs.Complete.{spells-gives}
+use Rattle.pool_sql.proofs.Results.{true_false}
+use Rattle.rm_words.proofs.Results.{some_is, none_some, ok_is, err_ok}
 
 -- what is read has its meaning
 means-turn : (p : Progress) (us : List Token) (t : Token) (ts : List Token) (q : Progress) (r : Stepped) → step p t ≡ r → Means p us
@@ -258,37 +261,10 @@ pub read-front : (ts : List Token) (p : Progress) → run Start ts ≡ Ok p → 
 read-front ts p h = let front = means-front p ts (sound ts p h) in (front.rest, front.statement, front.spells)
 
 -- a front is read
-front-turn : (r : Stepped) (rest : List Token) (last : Progress) → onward r (λ q. run q rest) ≡ Ok last
-    → (q : Progress) × (r ≡ Ok q)
-front-turn (Ok q) rest last h = (q, refl)
-front-turn (Err why) rest last h = absurd (err_ok why last h)
-
 pub front-read : (ts : List Token) → IsFront ts → (q : Progress) × (run Start ts ≡ Ok q)
 front-read ts front =
-    let gives = spells-gives (ts ++ front.0) front.1 front.2 in
-    front-turn (run Start ts) front.0 gives.last (sym (run-append Start ts front.0) ∙ gives.reads)
+    let gives = spells-gives (ts ++ front.0) front.1 front.2 in prefix-read reader ts front.0 gives.last gives.reads
 
 -- a front is one of words that can be written
 pub said-front : (ts : List Token) → IsFront ts → SaidFront ts
 said-front ts front = let read = front-read ts front in means-front read.0 ts (sound ts read.0 read.1)
-
--- what stops a step is no front
-pub stopped-no_front : (ts : List Token) (t : Token) (p : Progress) (why : Stop) → run Start ts ≡ Ok p → step p t ≡ Err why
-    → IsFront (ts ++ t ∷ []) → ⊥
-stopped-no_front ts t p why h stops front =
-    let read = front-read (ts ++ t ∷ []) front in
-    let stopped : run Start (ts ++ t ∷ []) ≡ Err why = run-after ts (t ∷ []) p h ∙ ap (λ r. onward r (λ q. run q [])) stops in
-    err_ok why read.0 (sym stopped ∙ read.1)
-
--- what ends too early is no statement
-pub unfinished-none : (ts : List Token) (p : Progress) (st : Statement) → run Start ts ≡ Ok p → finish p ≡ None → Spells ts st → ⊥
-unfinished-none ts p st h open_end spells =
-    let gives = spells-gives ts st spells in
-    none_some st (sym open_end ∙ ap finish (ok_is p gives.last (sym h ∙ gives.reads)) ∙ gives.gives)
-
--- words spell one statement at most
-pub one_statement : (ts : List Token) (a b : Statement) → Spells ts a → Spells ts b → a ≡ b
-one_statement ts a b x y =
-    let first = spells-gives ts a x in
-    let second = spells-gives ts b y in
-    some_is a b (sym first.gives ∙ ap finish (ok_is first.last second.last (sym first.reads ∙ second.reads)) ∙ second.gives)

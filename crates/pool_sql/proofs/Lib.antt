@@ -1,7 +1,4 @@
 pub mod Results
-pub mod NameLemmas
-pub mod Keys
-pub mod Saying
 pub mod Means
 pub mod Complete
 pub mod Fronts

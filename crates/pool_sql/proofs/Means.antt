@@ -20,16 +20,16 @@ use Rattle.pool_sql.specs.declared.setting.Setting.{Setting}
 use Rattle.pool_sql.specs.declared.setting.Setting.TheVariants as setting
 use Rattle.pool_sql.specs.declared.stop.Stop.{Stop}
 use Rattle.pool_sql.specs.declared.stop.Stop.TheVariants as stop
-use Rattle.pool_sql.specs.Names.{name_of}
+use Rattle.rm_words.specs.Names.{name_of, key, name}
 use Rattle.pool_sql.specs.Parameter.{parameter_of, takes_any}
 use Rattle.rm_base.specs.WellFormed.{is_named}
 use Rattle.pool_sql.specs.Setting.{set}
 use Rattle.pool_sql.specs.Value.{negative_of, optional_name, value_of}
-use Rattle.pool_sql.specs.Grammar.{IsBody, create_pool, alter_pool, drop_pool, create_user, alter_user, drop_user, create_role, alter_role, drop_role, grant_usage, revoke_usage, grant_role, revoke_role, named, IsValue, one, minus, IsValueDue, due, key, name, more_keys}
+use Rattle.pool_sql.specs.Grammar.{IsBody, create_pool, alter_pool, drop_pool, create_user, alter_user, drop_user, create_role, alter_role, drop_role, grant_usage, revoke_usage, grant_role, revoke_role, named, IsValue, one, minus, IsValueDue, due, more_keys}
 use Rattle.pool_sql.specs.Machine.{Edge, begun, edges, is_minus, is_semicolon, keyed, on_key, on_name, on_negative, on_other, on_parameter, on_role_pool, on_value, role_given, step, stranger, to_key, usage_given}
-use Rattle.pool_sql.proofs.Keys.{is_key-eq}
-use Rattle.pool_sql.proofs.NameLemmas.{name_of-eq}
-use Rattle.pool_sql.proofs.Results.{ok_is, err_ok}
+use Rattle.rm_words.proofs.Keys.{is_key-eq}
+use Rattle.rm_words.proofs.NameLemmas.{name_of-eq}
+use Rattle.rm_words.proofs.Results.{ok_is, err_ok}
 
 abbrev pub verb_key : Verb → List ℕ
 verb_key verb.Create = codes "CREATE"

@@ -36,19 +36,21 @@ use Rattle.pool_sql.specs.declared.setting.Setting.TheVariants as setting
 use Rattle.pool_sql.specs.declared.stop.Fault.TheVariants.{Form, Outside}
 use Rattle.pool_sql.specs.declared.stop.Stop.{Stop}
 use Rattle.pool_sql.specs.Amount.{bytes, digit_count, front_number, number_between, percent, size_in, size_of, span_in, span_of, behind_digits, within}
-use Rattle.pool_sql.specs.Grammar.{IsBody, create_pool, alter_pool, drop_pool, create_user, alter_user, drop_user, create_role, alter_role, drop_role, grant_usage, revoke_usage, grant_role, revoke_role, named, IsValue, one, minus, bare, key, more_keys, name}
-use Rattle.pool_sql.specs.Names.{name_called, name_of}
+use Rattle.pool_sql.specs.Grammar.{IsBody, create_pool, alter_pool, drop_pool, create_user, alter_user, drop_user, create_role, alter_role, drop_role, grant_usage, revoke_usage, grant_role, revoke_role, named, IsValue, one, minus, bare, more_keys}
+use Rattle.rm_words.specs.Names.{key, name, name_called, name_of}
 use Rattle.rm_base.specs.WellFormed.{IsBetween, IsOptionalBetween, IsOptionalSize, IsPriority, IsRightPool, IsRightUser, IsSize, IsWellFormed, is_named, is_named_pool, is_named_user, pool_parameters, user_parameters}
 use Rattle.pool_sql.specs.Parameter.{parameter_among, parameter_of}
 use Rattle.pool_sql.specs.Printed.{keys_text, parameter_named, pool_settings, priority_value, setting_text, settings_text, statement_text, user_settings, value_in, value_or, value_text}
 use Rattle.pool_sql.specs.Setting.{no_pool_change, no_user_change, set, set_pool, set_user}
 use Rattle.pool_sql.specs.Text.{SpellsText}
 use Rattle.pool_sql.specs.Value.{as_setting, is_default, is_none, optional, optional_name, signed, some_name, taken, value_of}
-use Rattle.pool_sql.proofs.Keys.{is_key-eq}
-use Rattle.pool_sql.proofs.NameLemmas.{name_called-none, name_called-text}
+use Rattle.rm_words.proofs.Keys.{is_key-eq}
+use Rattle.rm_words.proofs.NameLemmas.{name_called-none, name_called-text}
 use Rattle.pool_sql.proofs.Rights.{IsRightValue}
-use Rattle.pool_sql.proofs.Saying.{AllSay, AllSay-append, name-says, said-spells}
-use Rattle.pool_sql.proofs.Results.{none_some, true_false}
+use Rattle.pool_sql.proofs.Texts.{said-spells}
+use Rattle.rm_words.proofs.Saying.{AllSay, AllSay-append, name-says}
+use Rattle.pool_sql.proofs.Results.{true_false}
+use Rattle.rm_words.proofs.Results.{none_some}
 
 -- words behind a first one, each behind a blank
 abbrev pub spaced : List (List ℕ) → List ℕ

@@ -28,7 +28,8 @@ use Rattle.pool_sql.specs.Parameter.{parameter_of}
 use Rattle.pool_sql.specs.Printed.{parameter_named}
 use Rattle.pool_sql.specs.Setting.{no_pool_change, no_user_change, set, set_pool, set_user}
 use Rattle.pool_sql.specs.Value.{as_setting, defaults, is_auto, is_default, is_none, level_of, memory_size_of, optional, optional_name, optional_size, parallelism_of, priority_of, queue_timeout_of, runtime_cap_of, signed, taken, threshold_of, unless_default, value_of}
-use Rattle.pool_sql.proofs.Results.{some_is, none_some, ok_is, err_ok, true_false}
+use Rattle.pool_sql.proofs.Results.{true_false}
+use Rattle.rm_words.proofs.Results.{some_is, none_some, ok_is, err_ok}
 
 -- the value of a setting is one of those that can be written
 abbrev pub IsRightValue : Setting → Type 0

@@ -5,10 +5,10 @@ use Rattle.rm_base.specs.declared.refusal.Parameter.{Parameter}
 use Rattle.rm_base.specs.declared.refusal.Parameter.TheVariants as parameter
 use Rattle.rm_base.specs.declared.statement.Statement.{Statement}
 use Rattle.rm_base.specs.declared.statement.Statement.TheVariants as statement
-use Rattle.rm_base.specs.Name.{name_text}
 use Rattle.rm_base.specs.WellFormed.{is_named}
 use Rattle.rm_words.specs.declared.token.Symbol.TheVariants.{Semicolon, Minus}
-use Rattle.rm_words.specs.Token.{Token, Bare, Sign, folded}
+use Rattle.rm_words.specs.Names.{key, name}
+use Rattle.rm_words.specs.Token.{Token, Bare, Sign}
 use Rattle.pool_sql.specs.declared.setting.Setting.{Setting}
 use Rattle.pool_sql.specs.declared.setting.Setting.TheVariants as setting
 use Rattle.pool_sql.specs.declared.stop.Stop.{Stop}
@@ -16,14 +16,6 @@ use Rattle.pool_sql.specs.declared.stop.Stop.TheVariants as stop
 use Rattle.pool_sql.specs.Parameter.{is_affinity, parameter_of, takes_any}
 use Rattle.pool_sql.specs.Setting.{no_pool_change, no_user_change, set}
 use Rattle.pool_sql.specs.Value.{negative_of, optional_name, value_of}
-
--- a key word
-abbrev pub key : List ℕ → Token
-key word = Bare (folded word)
-
--- a name
-abbrev pub name : Name → Token
-name n = Bare (name_text n)
 
 -- the key word that stands between a parameter's first and its value
 abbrev pub more_keys : Parameter → List Token

@@ -9,6 +9,7 @@ use Rattle.rm_base.specs.WellFormed.{is_named}
 use Rattle.rm_words.specs.declared.token.Symbol.{Symbol}
 use Rattle.rm_words.specs.declared.token.Symbol.TheVariants as symbol
 use Rattle.rm_words.specs.Token.{Token, Bare, Number, Quoted, Sign, is_key}
+use Rattle.rm_words.specs.Reading.{Reader, run as run_all}
 use Rattle.pool_sql.specs.declared.progress.Giving.{Giving}
 use Rattle.pool_sql.specs.declared.progress.Giving.TheVariants as giving
 use Rattle.pool_sql.specs.declared.progress.Kind.{Kind}
@@ -21,7 +22,8 @@ use Rattle.pool_sql.specs.declared.setting.Setting.{Setting}
 use Rattle.pool_sql.specs.declared.setting.Setting.TheVariants as setting
 use Rattle.pool_sql.specs.declared.stop.Stop.{Stop}
 use Rattle.pool_sql.specs.declared.stop.Stop.TheVariants as stop
-use Rattle.pool_sql.specs.Names.{name_of, usage_name}
+use Rattle.pool_sql.specs.Names.{usage_name}
+use Rattle.rm_words.specs.Names.{name_of}
 use Rattle.pool_sql.specs.Parameter.{is_affinity, parameter_of, takes_any}
 use Rattle.pool_sql.specs.Setting.{no_pool_change, no_user_change, set}
 use Rattle.pool_sql.specs.Value.{negative_of, optional_name, value_of}
@@ -164,12 +166,10 @@ finish (Part true st) = Some st
 finish (Ended st) = Some st
 finish _ = None
 
--- what is left is read from where a word led
-abbrev pub onward : Stepped → (Progress → Stepped) → Stepped
-onward (Ok q) next = next q
-onward (Err why) next = Err why
+-- the reader of statements
+abbrev pub reader : Reader Token Statement Stop Progress
+reader = record { start = Start; step = λ p t. step p t; finish = λ p. finish p }
 
 -- all the words
 abbrev pub run : Progress → List Token → Stepped
-run p [] = Ok p
-run p (t ∷ ts) = onward (step p t) (λ q. run q ts)
+run p ts = run_all reader p ts

@@ -19,7 +19,7 @@ use Rattle.pool_sql.specs.declared.stop.Fault.TheVariants.{Form, Outside}
 use Rattle.pool_sql.specs.declared.stop.Stop.{Stop}
 use Rattle.pool_sql.specs.declared.stop.Stop.TheVariants.{Syntax, NotSupported, Range}
 use Rattle.pool_sql.specs.Amount.{number_between, size_of, span_of, timeout_of}
-use Rattle.pool_sql.specs.Names.{name_of}
+use Rattle.rm_words.specs.Names.{name_of}
 
 -- DEFAULT
 abbrev pub is_default : Token → Bool

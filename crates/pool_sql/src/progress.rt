@@ -4,7 +4,7 @@ ghost use Rattle.pool_sql.specs.Parameter.{parameter_of};
 ghost use Rattle.pool_sql.specs.Value.{negative_of, optional_name, value_of};
 ghost use Rattle.pool_sql.specs.Machine.{begun, finish, giving_edges, is_minus, is_semicolon, keyed, on_given, on_key, on_negative, on_other, on_parameter, on_role_pool, on_value, role_given, step, stranger, to_key, usage_given};
 
-use crate::names::{name_of, usage_name};
+use crate::names::usage_name;
 use crate::parameter::{is_affinity, parameter_of, takes_any};
 use crate::setting::{Setting, is_named, no_pool_change, no_user_change, set};
 use crate::stop::Stop;
@@ -190,7 +190,7 @@ fn on_given(giving: Giving, token: &Token) -> Result<Progress, Stop>
     if token.is_key(b"USAGE") {
         return Ok(Progress::Usage(giving));
     }
-    match name_of(token) {
+    match token.name() {
         Some(role) => Ok(Progress::RoleOf(giving, role)),
         None => Err(Stop::Syntax),
     }
@@ -211,7 +211,7 @@ fn on_usage(giving: Giving, token: &Token) -> Result<Progress, Stop>
 fn on_begun(verb: Verb, kind: Kind, token: &Token) -> Result<Progress, Stop>
     ensures { result ≡ step (Progress.NameDue verb kind) (seen token.now) }
 {
-    match name_of(token) {
+    match token.name() {
         Some(name) => Ok(begun(verb, kind, name)),
         None => Err(Stop::Syntax),
     }
@@ -220,7 +220,7 @@ fn on_begun(verb: Verb, kind: Kind, token: &Token) -> Result<Progress, Stop>
 fn on_usage_pool(giving: Giving, token: &Token) -> Result<Progress, Stop>
     ensures { result ≡ step (Progress.UsagePool giving) (seen token.now) }
 {
-    match name_of(token) {
+    match token.name() {
         Some(pool) => Ok(Progress::UsageOf(giving, pool)),
         None => Err(Stop::Syntax),
     }
@@ -229,7 +229,7 @@ fn on_usage_pool(giving: Giving, token: &Token) -> Result<Progress, Stop>
 fn on_usage_to(giving: Giving, pool: Name, token: &Token) -> Result<Progress, Stop>
     ensures { result ≡ step (Progress.UsageTo giving pool) (seen token.now) }
 {
-    match name_of(token) {
+    match token.name() {
         Some(name) => Ok(Progress::Part(true, giving.usage(pool, name))),
         None => Err(Stop::Syntax),
     }
@@ -238,7 +238,7 @@ fn on_usage_to(giving: Giving, pool: Name, token: &Token) -> Result<Progress, St
 fn on_role_to(giving: Giving, role: Name, token: &Token) -> Result<Progress, Stop>
     ensures { result ≡ step (Progress.RoleTo giving role) (seen token.now) }
 {
-    match name_of(token) {
+    match token.name() {
         Some(user) => Ok(Progress::Part(true, giving.role(role, user))),
         None => Err(Stop::Syntax),
     }

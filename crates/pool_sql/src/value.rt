@@ -3,7 +3,6 @@ ghost use Rattle.rm_words.specs.Token.{seen};
 ghost use Rattle.pool_sql.specs.Value.{defaults, is_auto, is_default, is_none, level_of, memory_size_of, negative_of, optional_name, optional_size, parallelism_of, priority_of, queue_timeout_of, runtime_cap_of, stop_of, threshold_of, value_of};
 
 use crate::amount::{number_between, size_of, span_of, timeout_of};
-use crate::names::name_of;
 use crate::setting::Setting;
 use crate::stop::{Fault, Stop};
 use rm_base::definitions::default_pool_row;
@@ -174,7 +173,7 @@ pub fn optional_name(token: &Token) -> Result<Option<Name>, Stop>
     if is_none(token) {
         return Ok(None);
     }
-    match name_of(token) {
+    match token.name() {
         Some(name) => Ok(Some(name)),
         None => Err(Stop::Syntax),
     }

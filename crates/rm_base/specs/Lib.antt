@@ -8,3 +8,4 @@ pub mod Values
 pub mod ValueLaws
 pub mod TableSeen
 pub mod Select
+pub mod Catalog

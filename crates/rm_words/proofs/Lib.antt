@@ -1,3 +1,4 @@
+pub mod Results
 pub mod Classes
 pub mod Scans
 pub mod Cuts
@@ -10,3 +11,7 @@ pub mod Characters
 pub mod Written
 pub mod Undoubling
 pub mod CutsOf
+pub mod Readings
+pub mod NameLemmas
+pub mod Keys
+pub mod Saying

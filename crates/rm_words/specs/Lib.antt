@@ -4,3 +4,5 @@ pub mod Scan
 pub mod Cut
 pub mod CutOf
 pub mod Token
+pub mod Names
+pub mod Reading

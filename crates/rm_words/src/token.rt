@@ -2,10 +2,12 @@ ghost use Rattle.std.specs.Prelude.{◌≡◌, IfOk, min};
 ghost use Rattle.std.specs.String.{string_bytes};
 ghost use Rattle.std.specs.Str.Parse.{digits_value};
 ghost use Rattle.rm_words.specs.Cut.{IsWordOf, word_at};
+ghost use Rattle.rm_words.specs.Names.{name_of};
 ghost use Rattle.rm_words.specs.Token.{AreDigits, capped, is_key, most, seen, symbol_bytes, symbol_of, token_of, undoubled};
 
 use crate::class::{Class, class_of};
 use crate::spans::Span;
+use rm_base::name::Name;
 use std::alloc::{AllocError, Global};
 
 /// A symbol of the statements' grammars.
@@ -89,6 +91,16 @@ impl Token<'_> {
         match self {
             Token::Bare(word) => word.as_bytes().eq_ignore_ascii_case(key),
             _ => false,
+        }
+    }
+
+    /// The name that the token is.
+    pub fn name(&self) -> Option<Name>
+        ensures { result ≡ name_of (seen self.now) }
+    {
+        match self {
+            Token::Bare(word) => Name::of(word),
+            _ => None,
         }
     }
 }

@@ -5,20 +5,16 @@ use Rattle.std.specs.List.{list_all}
 use Rattle.std.proofs.lemmas.Bool.{and_parts}
 use Rattle.std.proofs.lemmas.Bool.Decides.{nat_tests}
 use Rattle.rm_base.specs.declared.name.Name.{Name}
-use Rattle.rm_base.specs.declared.statement.Statement.{Statement}
 use Rattle.rm_base.specs.NameText.{is_bare as is_bare_name, begins_name, continues_name}
 use Rattle.rm_base.specs.Name.{name_text}
 use Rattle.rm_base.proofs.NameLemmas.{IsNameText-from, KeepsName-from}
 use Rattle.rm_words.specs.declared.class.Class.TheVariants as class
-use Rattle.rm_words.specs.declared.spans.Span.{Span}
 use Rattle.rm_words.specs.Class.{class_of}
 use Rattle.rm_words.specs.Word.{goes_on, is_bare}
-use Rattle.rm_words.specs.Cut.{AreWords, joined, spans_from, word_at, words_at}
+use Rattle.rm_words.specs.Cut.{AreWords}
 use Rattle.rm_words.specs.Token.{Token, Bare, Says, folded, token_of}
-use Rattle.rm_words.proofs.Joins.{joined_is_cut, joined_words}
 use Rattle.rm_words.proofs.Printing.{bare_says}
-use Rattle.pool_sql.specs.Grammar.{Spells, name}
-use Rattle.pool_sql.specs.Text.{SpellsText, tokens_in}
+use Rattle.rm_words.specs.Names.{name}
 
 -- words say tokens, one each
 abbrev pub AllSay : List (List ℕ) → List Token → Type 0
@@ -91,16 +87,3 @@ bare_name-says (c ∷ cs) h =
 
 pub name-says : (n : Name) → Says (name_text n) (name n)
 name-says n = bare_name-says (name_text n) (IsNameText-from (name_text n) (KeepsName-from n.bytes n.kept).text).bare
-
--- a text of words that say a statement
-tokens_in-words : (text : List ℕ) (spans : List Span) → tokens_in text spans ≡ map token_of (words_at text spans)
-tokens_in-words text [] = refl
-tokens_in-words text (span ∷ spans) = ap (λ l. token_of (word_at text span) ∷ l) (tokens_in-words text spans)
-
-pub said-spells : (st : Statement) (ws : List (List ℕ)) (ts : List Token) → Spells ts st → AllSay ws ts → SpellsText (joined ws) st
-said-spells st ws ts spells says =
-    let text : List ℕ = joined ws in
-    let spans = spans_from 0 ws in
-    let same : tokens_in text spans ≡ ts =
-    tokens_in-words text spans ∙ ap (map token_of) (joined_words text 0 ws refl) ∙ tokens_said ws ts says in
-    (spans, joined_is_cut 0 ws (are_words ws ts says), subst (λ l. Spells l st) (sym same) spells)

@@ -1,8 +1,8 @@
 use Rattle.std.proofs.Common.{◌∙◌, sym, ap}
 use Rattle.rm_words.specs.Token.{seen}
-use Rattle.pool_sql.specs.Names.{name_of}
-use Rattle.pool_sql.proofs.NameLemmas.{name_of-lower}
-use Rattle.pool_sql.proofs.names.name_of.Goals as goal
+use Rattle.rm_words.specs.Names.{name_of}
+use Rattle.rm_words.proofs.NameLemmas.{name_of-lower}
+use Rattle.rm_words.proofs.token.Token.name.Goals as goal
 
 pub returns-in-Bare : goal.returns-in-Bare
 returns-in-Bare c =

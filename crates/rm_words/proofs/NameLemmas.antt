@@ -9,9 +9,8 @@ use Rattle.rm_base.proofs.NameLemmas.{IsNameText-from, KeepsName-from, bare_cont
 use Rattle.rm_base.proofs.Names.{name_text-eq}
 use Rattle.rm_base.proofs.Spelled.{name_kept-same}
 use Rattle.rm_words.specs.Token.{Token, Bare, Number, Quoted, Sign}
-use Rattle.pool_sql.specs.Grammar.{name}
-use Rattle.pool_sql.specs.Names.{name_called, name_of}
-use Rattle.pool_sql.proofs.Results.{some_is, none_some}
+use Rattle.rm_words.specs.Names.{name, name_called, name_of}
+use Rattle.rm_words.proofs.Results.{some_is, none_some}
 
 -- the name with a text
 record Called (text : List ℕ) : Type 0 where
