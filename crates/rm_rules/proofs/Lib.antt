@@ -51,3 +51,9 @@ pub mod Early
 pub mod Crossing
 pub mod Splitting
 pub mod Staging
+pub mod Along
+pub mod SortLaws
+pub mod OrderLaws
+pub mod Distinct
+pub mod GroupLaws
+pub mod MatchLaws

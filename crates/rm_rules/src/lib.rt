@@ -3,6 +3,7 @@
 
 pub mod acceptance;
 pub mod answer;
+pub mod arrangements;
 pub mod free_bytes;
 pub mod history;
 pub mod readings;
