@@ -8,3 +8,7 @@ pub mod ScriptLaws
 pub mod EndedLaws
 pub mod RunLemmas
 pub mod HostLaws
+pub mod OpenLaws
+pub mod RunningLaws
+pub mod ToldLaws
+pub mod EndingLaws

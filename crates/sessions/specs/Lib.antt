@@ -12,3 +12,5 @@ pub mod OptionsFacts
 pub mod Ended
 pub mod Running
 pub mod Host
+pub mod Granted
+pub mod Session
