@@ -1,5 +1,5 @@
 -- The pools after an accepted statement: as many by the same names, or one more behind them.
-use Rattle.std.proofs.Common.{◌≡◌, ◌<◌, ◌≤◌, ◌+◌, ℕ, Bool, true, false, List, [], ◌∷◌, ◌++◌, length, Some, Ok, get_or, map, refl, sym, ap, ◌∙◌, subst, arith}
+use Rattle.std.proofs.Common.{◌≡◌, ◌<◌, ◌≤◌, ◌+◌, ℕ, Bool, true, false, List, [], ◌∷◌, ◌++◌, length, Ok, get_or, map, refl, sym, ap, ◌∙◌, subst, arith}
 use Rattle.std.proofs.lemmas.Bool.{false≢true}
 use Rattle.std.proofs.lemmas.List.{length_push, map_push}
 use Rattle.rm_base.specs.declared.definitions.Definitions.{Definitions}
@@ -7,7 +7,6 @@ use Rattle.rm_base.specs.declared.entry.EndCounts.{EndCounts}
 use Rattle.rm_base.specs.declared.rows.PoolRow.{PoolRow}
 use Rattle.rm_base.specs.declared.statement.Statement.{Statement}
 use Rattle.rm_rules.specs.declared.state.Reserve.{Reserve}
-use Rattle.rm_rules.specs.declared.state.Runner.{Runner}
 use Rattle.rm_rules.specs.Definitions.{user_pools}
 use Rattle.rm_rules.specs.State.{State, none_ended}
 use Rattle.rm_rules.specs.Holdings.{Holdings, holdings_of}

@@ -21,6 +21,7 @@ use std::alloc::{AllocError, Global};
 use std::marker::Model;
 
 mod choose;
+mod close;
 mod define;
 mod ends;
 mod events;

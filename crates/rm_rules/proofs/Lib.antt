@@ -23,6 +23,7 @@ pub mod Admitting
 pub mod Ending
 pub mod Settling
 pub mod Changing
+pub mod Closing
 pub mod Keeping
 pub mod Answering
 pub mod Stepping
@@ -37,5 +38,6 @@ pub mod SettledLaws
 pub mod Within
 pub mod Alone
 pub mod Grants
+pub mod Runs
 pub mod Histories
 pub mod Submitting
