@@ -89,7 +89,7 @@ without-turn n m seat xs false e once h = record {
 }
 
 -- so no part of an event gives a session to another seat
-owned-found_at : (s : State) (at n seat : ℕ) → IsOwned n seat s.sessions → IsOwned n seat (found_at s at).sessions
+pub owned-found_at : (s : State) (at n seat : ℕ) → IsOwned n seat s.sessions → IsOwned n seat (found_at s at).sessions
 owned-found_at s at n seat h =
     due-keeps (λ t. IsOwned n seat t.sessions) (λ t w end among k. owned-with n w.session seat (phase.Ended end) t.sessions k) (moved_to s at) h
 
@@ -148,7 +148,7 @@ session_of-owned : (s : State) (seat n : ℕ) (x : Session) → IsOwned n seat s
 session_of-owned s seat n x owned called =
     ap (option_and_then (if_opened_by seat)) called ∙ ap (λ b. cond b (Some x) None) (eq-eqb x.seat seat (owned.owner x called))
 
-runs-open : (t : State) (n seat : ℕ) (r : Runner) → AreInPhase t.sessions t.waiting t.running → IsOwned n seat t.sessions → runner_of t.running n ≡ Some r
+pub runs-open : (t : State) (n seat : ℕ) (r : Runner) → AreInPhase t.sessions t.waiting t.running → IsOwned n seat t.sessions → runner_of t.running n ≡ Some r
     → (x : Session) × (session_of t seat n ≡ Some x) × (is_running x.phase ≡ true)
 runs-open t n seat r h owned found = turn (session_called t.sessions n) refl where
   turn : (o : Option Session) → session_called t.sessions n ≡ o → (x : Session) × (session_of t seat n ≡ Some x) × (is_running x.phase ≡ true)
@@ -156,7 +156,7 @@ runs-open t n seat r h owned found = turn (session_called t.sessions n) refl whe
   turn (Some x) called = (x, session_of-owned t seat n x owned called, ap is_running (sym (phase_of-found n t.sessions x called)) ∙ session-runs t n r h found)
 
 -- what a seat knows of the run of its session
-record IsRun (s : State) (seat session : ℕ) (run : Run) : Type 0 where
+pub record IsRun (s : State) (seat session : ℕ) (run : Run) : Type 0 where
   pub opener : Session
   pub open_session : session_of s seat session ≡ Some opener
   pub runner : Runner
@@ -169,15 +169,15 @@ run-turn s seat session run None q e f is = absurd (cc)
 run-turn s seat session run (Some x) None e f is = absurd (cc)
 run-turn s seat session run (Some x) (Some r) e f is = record { opener = x; open_session = e; runner = r; runs = f; is = let same : run_by r ≡ run = cc in same }
 
-run-is : (s : State) (seat session : ℕ) (run : Run) → run_of s seat session ≡ Some run → IsRun s seat session run
+pub run-is : (s : State) (seat session : ℕ) (run : Run) → run_of s seat session ≡ Some run → IsRun s seat session run
 run-is s seat session run is = run-turn s seat session run (session_of s seat session) (runner_of s.running session) refl refl is
 
-run-found : (s : State) (seat session : ℕ) (x : Session) (r : Runner) → session_of s seat session ≡ Some x → runner_of s.running session ≡ Some r → run_of s seat session ≡ Some (run_by r)
+pub run-found : (s : State) (seat session : ℕ) (x : Session) (r : Runner) → session_of s seat session ≡ Some x → runner_of s.running session ≡ Some r → run_of s seat session ≡ Some (run_by r)
 run-found s seat session x r found runs =
     ap (option_and_then (λ (_ : Session). option_map run_by (runner_of s.running session))) found ∙ ap (option_map run_by) runs
 
 -- its session is this seat's, with a number that was given
-owned-opened : (s : State) (seat n : ℕ) (x : Session) → session_of s seat n ≡ Some x → IsOwned n seat s.sessions
+pub owned-opened : (s : State) (seat n : ℕ) (x : Session) → session_of s seat n ≡ Some x → IsOwned n seat s.sessions
 owned-opened s seat n x found =
     let is = session_of-is s seat n x found in
     subst (λ k. IsOwned n k s.sessions) is.of_seat (owned-found n x s.sessions is.called)

@@ -1,5 +1,6 @@
 -- What the calls of a host leave of the state that it has seen.
-use Rattle.std.proofs.Common.{◌≡◌, ℕ, Bool, true, false, cond, eqb, List, [], ◌∷◌, ◌++◌, length, append-nil, refl, sym, ap, ◌∙◌, subst}
+use Rattle.std.proofs.Common.{◌≡◌, ◌≢◌, ℕ, Bool, true, false, cond, eqb, List, [], ◌∷◌, ◌++◌, length, append-nil, refl, sym, ap, ◌∙◌, subst}
+use Rattle.std.proofs.lemmas.Bool.{eq-eqb, false≢true}
 use Rattle.rm_base.specs.declared.entry.Answered.{Answered}
 use Rattle.rm_base.specs.declared.entry.Entry.{Entry}
 use Rattle.rm_base.specs.declared.event.Event.{Event}
@@ -16,7 +17,7 @@ use Rattle.sessions.specs.Host.{Known, beginning, state_of, outcome_at, with_see
 
 -- a fact that the events of other seats keep
 abbrev pub IsKeptByOthers : ℕ → (State → Type 0) → Type 0
-IsKeptByOthers seat P = (s : State) (other at : ℕ) (event : Event) → eqb other seat ≡ false → IsHealthy s → IsFormed event → P s → P (step s other at event).state
+IsKeptByOthers seat P = (s : State) (other at : ℕ) (event : Event) → other ≢ seat → IsHealthy s → IsFormed event → P s → P (step s other at event).state
 
 others-turn : (e : Entry) (rest : List Entry) (b : Bool) → cond b (e ∷ rest) rest ≡ [] → (b ≡ false) × (rest ≡ [])
 others-turn e rest true none = absurd (cc)
@@ -28,7 +29,7 @@ others-keep P seat each s [] healthy legal none h = h
 others-keep P seat each s (e ∷ es) healthy legal none h =
     let first = others-turn e (own_entries seat es) (eqb e.seat seat) none in
     others-keep P seat each (step s e.seat e.at e.event).state es (healthy-step s e.seat e.at e.event legal.0 healthy) legal.2 first.1
-    (each s e.seat e.at e.event first.0 healthy legal.0 h)
+    (each s e.seat e.at e.event (λ same. false≢true (sym first.0 ∙ eq-eqb e.seat seat same)) healthy legal.0 h)
 
 -- what a host has seen leaves a healthy state
 pub sees-healthy : (old new : Known) → SeesMore old new → IsHealthy (state_of new)

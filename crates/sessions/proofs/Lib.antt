@@ -9,6 +9,6 @@ pub mod EndedLaws
 pub mod RunLemmas
 pub mod HostLaws
 pub mod OpenLaws
-pub mod RunningLaws
 pub mod ToldLaws
 pub mod EndingLaws
+pub mod SessionLaws

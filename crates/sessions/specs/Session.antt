@@ -8,10 +8,8 @@ use Rattle.rm_base.specs.declared.event.Event.{Event}
 use Rattle.rm_base.specs.declared.refusal.Refusal.{Refusal}
 use Rattle.rm_base.specs.declared.reply.Reply.{Reply}
 use Rattle.rm_base.specs.declared.reply.Reply.TheVariants as reply
-use Rattle.rm_rules.specs.declared.state.Phase.TheVariants as phase
-use Rattle.rm_rules.specs.declared.state.Runner.{Runner}
 use Rattle.rm_rules.specs.declared.state.Session.{Session}
-use Rattle.rm_rules.specs.Change.{runner_of}
+use Rattle.rm_rules.specs.Grants.{Run, run_of}
 use Rattle.rm_rules.specs.State.{State, session_of}
 use Rattle.sessions.specs.declared.submitted.Submitted.{Submitted}
 use Rattle.sessions.specs.declared.submitted.Submitted.TheVariants.{Admitted, Waiting, Ended, Refused}
@@ -22,22 +20,27 @@ use Rattle.sessions.specs.Host.{Known, state_of, Called}
 abbrev pub IsOpen : State → ℕ → ℕ → Type 0
 IsOpen s seat number = (x : Session) × (session_of s seat number ≡ Some x)
 
--- a query of a session that the seat opened runs, and this is its grant
-pub record IsRunning (s : State) (seat : ℕ) (grant : Granted) : Type 0 where
-  pub session : Session
-  pub opened : session_of s seat grant.session ≡ Some session
-  pub runs : session.phase ≡ phase.Running
-  pub runner : Runner
-  pub found : runner_of s.running grant.session ≡ Some runner
-  pub query : runner.query ≡ grant.query
-  pub bytes : runner.grant ≡ grant.bytes
+-- the seat opened the session, and the query of this grant runs in it
+abbrev pub IsRunning : State → ℕ → Granted → Type 0
+IsRunning s seat grant = run_of s seat grant.session ≡ Some (record { query = grant.query; grant = grant.bytes })
 
--- the same in what a host has seen: its seat opened the session, which is open; and a query of its session runs with a grant
+-- some query runs in the session
+abbrev pub HasQuery : State → ℕ → ℕ → Type 0
+HasQuery s seat number = (run : Run) × (run_of s seat number ≡ Some run)
+
+-- the same in what a host has seen
 abbrev pub SeesOpen : Known → ℕ → Type 0
 SeesOpen k number = IsOpen (state_of k) k.seat number
 
 abbrev pub SeesRunning : Known → Granted → Type 0
 SeesRunning k grant = IsRunning (state_of k) k.seat grant
+
+abbrev pub SeesQuery : Known → ℕ → Type 0
+SeesQuery k number = HasQuery (state_of k) k.seat number
+
+-- the grant is this session's, and its query runs
+abbrev pub HoldsGrant : Known → ℕ → Granted → Type 0
+HoldsGrant k number grant = (grant.session ≡ number) × SeesRunning k grant
 
 -- one call of this event, with a reply of which this holds
 abbrev pub CallsOnce : Known → Known → ℕ → Event → (Reply → Type 0) → Type 0
@@ -51,6 +54,11 @@ open_reply (Err refusal) = reply.Refused refusal
 -- the reply tells of this grant, which is held so
 abbrev pub TellsGrant : Granted → Account → Reply → Type 0
 TellsGrant grant account answer = answer ≡ reply.Admitted grant.query account.pool grant.bytes account.own account.borrowed
+
+-- the reply to Close
+abbrev pub close_reply : Result (Unit {0}) (SessionState × Refusal) → Reply
+close_reply (Ok done) = reply.Closed
+close_reply (Err back) = reply.Refused back.1
 
 -- the reply to Submit or Poll says this to its session
 abbrev pub IsTold : ℕ → Submitted → Reply → Type 0

@@ -1,11 +1,14 @@
 //! Sessions over a host, and the laws on them.
 
-ghost use Rattle.std.specs.Prelude.{◌≡◌, true, false, ◌||◌, is_some, IfOk, IfSome, IsSome};
+ghost use Rattle.std.specs.Prelude.{◌≡◌, ◌≢◌, ◌↔◌, ℕ, false, ◌||◌, is_some, IfOk, IfErr, IsErr, OnOk, IfSome};
 ghost use Rattle.std.specs.Option.{ForSome};
 ghost use Rattle.rm_base.specs.declared.entry.Account.{Account};
-ghost use Rattle.rm_base.specs.declared.event.Event.TheVariants as event;
-ghost use Rattle.rm_base.specs.declared.reply.Reply.TheVariants as reply;
-ghost use Rattle.sessions.specs.Session.{TellsGrant};
+ghost use Rattle.rm_base.specs.declared.entry.Answered.{Answered};
+ghost use Rattle.rm_base.specs.declared.event.Event.{Event};
+ghost use Rattle.rm_rules.specs.Replay.{IsFormed};
+ghost use Rattle.sessions.specs.Granted.{Granted};
+ghost use Rattle.sessions.specs.Host.{Known, SeesMore, Called};
+ghost use Rattle.sessions.specs.Session.{SeesOpen, SeesRunning, TellsGrant};
 
 use crate::grant::Grant;
 use crate::host::Host;
@@ -34,12 +37,12 @@ impl Model for Session {
 }
 
 impl Session {
-    ghost use Rattle.sessions.specs.Granted.{Granted, SessionState};
-    ghost use Rattle.sessions.specs.Session.{SeesOpen, SeesRunning, CallsOnce, open_reply, IsTold, TellsQuery, is_admitted, IfAdmitted, ComesBack};
+    ghost use Rattle.sessions.specs.Session.{SeesOpen, SeesQuery, HoldsGrant, CallsOnce, open_reply, close_reply, IsTold, TellsQuery, is_admitted, IfAdmitted, ComesBack};
 
     /// Opens a session. It is refused with 8, 24 or 25, as the rules for Open say.
     pub fn open<H: Host>(host: &mut H, at: Moment, user: Name) -> Result<Session, Refusal>
-        ensures call { CallsOnce (H.known host.old) (H.known host.new) at (event.Open user) (λ reply. reply ≡ open_reply result) }
+        ensures call { CallsOnce (H.known host.old) (H.known host.new) at (Event.Open user)
+            (λ reply. reply ≡ open_reply result) }
         ensures opened { IfOk result (λ session. SeesOpen (H.known host.new) session.number) }
         ensures free { IfOk result (λ session. session.granted ≡ false) }
     {
@@ -63,8 +66,9 @@ impl Session {
     /// Submits a query that no less than `floor` bytes serve. It is refused with 20, 21, 8, 23, 19 or 25, as the rules for
     /// Submit say.
     pub fn submit<H: Host>(&mut self, host: &mut H, at: Moment, floor: u64) -> Submitted
-        ensures call { CallsOnce (H.known host.old) (H.known host.new) at (event.Submit self.old.number floor) (IsTold self.old.number result) }
-        ensures runs { IfAdmitted result (SeesRunning (H.known host.new)) }
+        ensures call { CallsOnce (H.known host.old) (H.known host.new) at (Event.Submit self.old.number floor)
+            (IsTold self.old.number result) }
+        ensures grant { IfAdmitted result (HoldsGrant (H.known host.new) self.old.number) }
         ensures session { self.new ≡ record self.old { granted = self.old.granted || is_admitted result } }
     {
         let event = Event::Submit {
@@ -79,11 +83,11 @@ impl Session {
     /// is refused with 20 or 22, as the rules for Poll say.
     pub fn poll<H: Host>(&mut self, host: &mut H, at: Moment, held: Option<Grant>) -> Submitted
         requires held { self.old.granted ≡ is_some held }
-        requires own { ForSome held (λ grant. grant.session ≡ self.old.number) }
-        requires runs { ForSome held (SeesRunning (H.known host.old)) }
-        ensures call { CallsOnce (H.known host.old) (H.known host.new) at (event.Poll self.old.number) (IsTold self.old.number result) }
+        requires own { ForSome held (HoldsGrant (H.known host.old) self.old.number) }
+        ensures call { CallsOnce (H.known host.old) (H.known host.new) at (Event.Poll self.old.number)
+            (IsTold self.old.number result) }
         ensures back { IfSome held (λ grant. ComesBack grant result) }
-        ensures runs { IfAdmitted result (SeesRunning (H.known host.new)) }
+        ensures grant { IfAdmitted result (HoldsGrant (H.known host.new) self.old.number) }
         ensures session { self.new ≡ record self.old { granted = is_admitted result } }
     {
         let event = Event::Poll {
@@ -101,9 +105,9 @@ impl Session {
 
     /// Ends the session's query and gives its grant back. The reply is always Released.
     pub fn finish<H: Host>(&mut self, host: &mut H, at: Moment, grant: Grant) -> u64
-        requires own { grant.session ≡ self.old.number }
-        requires runs { SeesRunning (H.known host.old) grant }
-        ensures call { CallsOnce (H.known host.old) (H.known host.new) at (event.Finish self.old.number) (λ reply. reply ≡ reply.Released result) }
+        requires own { HoldsGrant (H.known host.old) self.old.number grant }
+        ensures call { CallsOnce (H.known host.old) (H.known host.new) at (Event.Finish self.old.number)
+            (λ reply. reply ≡ Reply.Released result) }
         ensures bytes { result ≡ grant.bytes }
         ensures opened { SeesOpen (H.known host.new) self.old.number }
         ensures session { self.new ≡ record self.old { granted = false } }
@@ -114,6 +118,28 @@ impl Session {
         let _answered = host.call(at, &event);
         self.granted = false;
         grant.spend()
+    }
+
+    /// Closes the session. It is refused with 21 where a query of it runs of which nobody was told, and then it comes
+    /// back.
+    pub fn close<H: Host>(self, host: &mut H, at: Moment) -> Result<(), (Session, Refusal)>
+        requires free { self.granted ≡ false }
+        requires opened { SeesOpen (H.known host.old) self.number }
+        ensures call { CallsOnce (H.known host.old) (H.known host.new) at (Event.Close self.number)
+            (λ reply. reply ≡ close_reply result) }
+        ensures closed { OnOk result (SeesOpen (H.known host.new) self.number → ⊥) }
+        ensures runs { IsErr result ↔ SeesQuery (H.known host.new) self.number }
+        ensures busy { IfErr result (λ back. back.1 ≡ Refusal.SessionBusy) }
+        ensures back { IfErr result (λ back. back.0 ≡ self) }
+    {
+        let event = Event::Close {
+            session: self.number,
+        };
+        match host.call(at, &event).reply {
+            Reply::Closed => Ok(()),
+            Reply::Refused(refusal) => Err((self, refusal)),
+            _ => unreachable!(),
+        }
     }
 
     /// What the reply to Submit or Poll says.
@@ -166,3 +192,25 @@ fn account_of(grant: &Grant, reply: Reply) -> Account
         _ => unreachable!(),
     }
 }
+
+/// A session stays open, whatever is done at its host and at other seats, until its own seat closes it.
+pub fn sessions_stay_open()
+    ensures calls { (old new : Known) (at number : ℕ) (event : Event) (answered : Answered)
+        → Called old new at event answered
+        → IsFormed event
+        → event ≢ Event.Close number
+        → SeesOpen old number
+        → SeesOpen new number }
+    ensures looks { (old new : Known) (number : ℕ) → SeesMore old new → SeesOpen old number → SeesOpen new number }
+{}
+
+/// A query runs on with its grant, whatever is done at its host and at other seats, until its own seat finishes it.
+pub fn running_queries_go_on()
+    ensures calls { (old new : Known) (at : ℕ) (grant : Granted) (event : Event) (answered : Answered)
+        → Called old new at event answered
+        → IsFormed event
+        → event ≢ Event.Finish grant.session
+        → SeesRunning old grant
+        → SeesRunning new grant }
+    ensures looks { (old new : Known) (grant : Granted) → SeesMore old new → SeesRunning old grant → SeesRunning new grant }
+{}
