@@ -37,7 +37,7 @@ use Rattle.rm_rules.proofs.Admitting.{one_or_none}
 use Rattle.rm_rules.proofs.Settling.{due-keeps, settled-keeps, rest-due}
 use Rattle.rm_rules.proofs.Changing.{IsTried, stays, changes, refuses, repeats, tells, IsChange, defines, opens, chooses, submits, collects, finishes, closes, session_of-is, session_of-found, tried-is}
 use Rattle.rm_rules.proofs.Stepping.{found-facts, none-found, outcome-turn}
-use Rattle.rm_rules.proofs.Laws.{healthy-step}
+use Rattle.rm_rules.proofs.Laws.{healthy-step, others-keep}
 use Rattle.rm_rules.proofs.Loud.{next-differs}
 use Rattle.rm_rules.proofs.Grants.{grant_of-found, runner-number, less-found, grants-step}
 
@@ -274,17 +274,11 @@ runs-on s seat at owner session event run h formed is unless =
     run-found t owner session opener.0 r opener.1 runs ∙ ap (λ x. Some x) was.is
 
 -- also along a history of other seats
-others-turn : (seat : ℕ) (e : Entry) (es : List Entry) (b : Bool) → cond b (e ∷ own_entries seat es) (own_entries seat es) ≡ [] → (b ≡ false) × (own_entries seat es ≡ [])
-others-turn seat e es true none = absurd (cc)
-others-turn seat e es false none = (refl, none)
-
 pub runs-among : (s : State) (entries : List Entry) (owner session : ℕ) (run : Run) → IsHealthy s → IsLegal s entries → own_entries owner entries ≡ []
     → run_of s owner session ≡ Some run → run_of (replay s entries) owner session ≡ Some run
-runs-among s [] owner session run h legal others is = is
-runs-among s (e ∷ es) owner session run h legal others is =
-    let apart = others-turn owner e es (eqb e.seat owner) others in
-    runs-among (step s e.seat e.at e.event).state es owner session run (healthy-step s e.seat e.at e.event legal.0 h) legal.2 apart.1
-    (runs-on s e.seat e.at owner session e.event run h legal.0 is (λ _ same. false≢true (sym apart.0 ∙ eq-eqb e.seat owner same)))
+runs-among s entries owner session run h legal none is =
+    others-keep (λ t. run_of t owner session ≡ Some run) owner
+    (λ t seat at event apart healthy formed runs. runs-on t seat at owner session event run healthy formed runs (λ _. apart)) s entries h legal none is
 
 -- a Finish of a running session is not refused
 finish-found : (t : State) (seat session : ℕ) (x : Session) → session_of t seat session ≡ Some x → is_running x.phase ≡ true → attempted t seat (Finish session) ≡ finished t x

@@ -23,8 +23,8 @@ use Rattle.rm_rules.proofs.Settling.{due-keeps, settled-keeps}
 use Rattle.rm_rules.proofs.Changing.{IsTried, stays, changes, refuses, repeats, tells, defines, opens, chooses, submits, collects, finishes, closes, session_of-is, tried-is}
 use Rattle.rm_rules.proofs.Foreign.{foreign-step}
 use Rattle.rm_rules.proofs.Stepping.{outcome-turn}
+use Rattle.rm_rules.proofs.Laws.{IsKeptByOthers}
 use Rattle.sessions.specs.Session.{IsOpen}
-use Rattle.sessions.proofs.HostLaws.{IsKeptByOthers}
 
 -- the session of this number is there, and this seat opened it
 abbrev pub IsThere : ℕ → ℕ → List Session → Type 0

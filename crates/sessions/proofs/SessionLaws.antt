@@ -10,13 +10,14 @@ use Rattle.rm_rules.specs.State.{State}
 use Rattle.rm_rules.specs.Replay.{IsFormed}
 use Rattle.rm_rules.specs.Sessions.{session_in}
 use Rattle.rm_rules.specs.Grants.{Run, run_of}
+use Rattle.rm_rules.proofs.Laws.{IsKeptByOthers}
 use Rattle.rm_rules.proofs.Runs.{run-is, runs-on, finish-step, told-step}
 use Rattle.sessions.specs.declared.submitted.Submitted.{Submitted}
 use Rattle.sessions.specs.declared.submitted.Submitted.TheVariants.{Admitted, Waiting, Ended, Refused}
 use Rattle.sessions.specs.Granted.{Granted}
 use Rattle.sessions.specs.Host.{Known, state_of, outcome_at, SeesMore, Called}
 use Rattle.sessions.specs.Session.{IsOpen, IsRunning, HasQuery, SeesOpen, SeesRunning, HoldsGrant, IsTold, IfAdmitted, TellsQuery}
-use Rattle.sessions.proofs.HostLaws.{IsKeptByOthers, sees-healthy, sees-keeps, sees-seat, called-state, called-seat, called-keeps}
+use Rattle.sessions.proofs.HostLaws.{sees-healthy, sees-keeps, sees-seat, called-state, called-seat, called-keeps}
 use Rattle.sessions.proofs.OpenLaws.{open-others, open-step}
 use Rattle.sessions.proofs.ToldLaws.{asks, asking-tells, IsGiven, poll-given}
 use Rattle.sessions.proofs.EndingLaws.{AnswersOpen, open-answers, AnswersClose, close-answers}

@@ -21,7 +21,8 @@ use rm_base::refusal::Refusal;
 use rm_base::reply::Reply;
 use std::marker::Model;
 
-/// A session that is open at a host. Each of its calls is one event of the host, and takes no memory.
+/// A session of a host, which knows whether a grant of it is out. Each of its calls is one event of the host, takes no
+/// memory, and answers that event's reply.
 #[derive(Debug, Drop)]
 pub struct Session {
     number: u32,
@@ -39,7 +40,8 @@ impl Model for Session {
 impl Session {
     ghost use Rattle.sessions.specs.Session.{SeesOpen, SeesQuery, HoldsGrant, CallsOnce, open_reply, close_reply, IsTold, TellsQuery, is_admitted, IfAdmitted, ComesBack};
 
-    /// Opens a session. It is refused with 8, 24 or 25, as the rules for Open say.
+    /// Opens a session of a user. It is refused with 8 where there is no such user, with 24 where as many sessions are open
+    /// as may be, and with 25 where the journal is full.
     pub fn open<H: Host>(host: &mut H, at: Moment, user: Name) -> Result<Session, Refusal>
         ensures call { CallsOnce (H.known host.old) (H.known host.new) at (Event.Open user)
             (λ reply. reply ≡ open_reply result) }
@@ -63,8 +65,10 @@ impl Session {
         self.number
     }
 
-    /// Submits a query that no less than `floor` bytes serve. It is refused with 20, 21, 8, 23, 19 or 25, as the rules for
-    /// Submit say.
+    /// Submits a query that no less than `floor` bytes serve. It is refused with 20 where the host's seat has no such
+    /// session, with 21 where the session has a query, with 8 where its user is gone, with 23 where the user may not use
+    /// the session's pool, with 19 where no query of that pool may have so many bytes, and with 25 where the journal is
+    /// full.
     pub fn submit<H: Host>(&mut self, host: &mut H, at: Moment, floor: u64) -> Submitted
         ensures call { CallsOnce (H.known host.old) (H.known host.new) at (Event.Submit self.old.number floor)
             (IsTold self.old.number result) }
@@ -79,8 +83,8 @@ impl Session {
         self.told(answered.reply)
     }
 
-    /// Asks for the session's query. `held` is the session's grant where one is out, which comes back then. Without one it
-    /// is refused with 20 or 22, as the rules for Poll say.
+    /// Asks for the session's query. `held` is the session's grant where one is out, and comes back. Else it is refused
+    /// with 20 where the host's seat has no such session, and with 22 where the session has no query.
     pub fn poll<H: Host>(&mut self, host: &mut H, at: Moment, held: Option<Grant>) -> Submitted
         requires held { self.old.granted ≡ is_some held }
         requires own { ForSome held (HoldsGrant (H.known host.old) self.old.number) }
@@ -103,13 +107,12 @@ impl Session {
         }
     }
 
-    /// Ends the session's query and gives its grant back. The reply is always Released.
+    /// Ends the session's query and gives its grant back. It is never refused.
     pub fn finish<H: Host>(&mut self, host: &mut H, at: Moment, grant: Grant) -> u64
         requires own { HoldsGrant (H.known host.old) self.old.number grant }
         ensures call { CallsOnce (H.known host.old) (H.known host.new) at (Event.Finish self.old.number)
             (λ reply. reply ≡ Reply.Released result) }
         ensures bytes { result ≡ grant.bytes }
-        ensures opened { SeesOpen (H.known host.new) self.old.number }
         ensures session { self.new ≡ record self.old { granted = false } }
     {
         let event = Event::Finish {
@@ -120,8 +123,7 @@ impl Session {
         grant.spend()
     }
 
-    /// Closes the session. It is refused with 21 where a query of it runs of which nobody was told, and then it comes
-    /// back.
+    /// Closes the session. It is refused with 21, and comes back, just where it has a query that was admitted unseen.
     pub fn close<H: Host>(self, host: &mut H, at: Moment) -> Result<(), (Session, Refusal)>
         requires free { self.granted ≡ false }
         requires opened { SeesOpen (H.known host.old) self.number }

@@ -20,8 +20,7 @@ pub returns-in-Closed-clause-runs : goal.returns-in-Closed-clause-runs
 returns-in-Closed-clause-runs g c =
     let n = c.args.self.number in
     let new = g.H.Host.known c.call.new.self in
-    let answers = close-reply _ new c.args.at _ n c.call.result (ap (λ (s : SessionState). s.number) c.self.view_is) c.call.ensures c.requires.opened in
-    (
+    let answers = close-reply _ new c.args.at _ n c.call.result (ap (λ (s : SessionState). s.number) c.self.view_is) c.call.ensures c.requires.opened in (
       λ no. absurd (false≢true no),
       λ runs. absurd (close-closed new.seat n (state_of new) c.call.result.reply answers c.in-Closed.is (query-open (state_of new) new.seat n runs)),
     )

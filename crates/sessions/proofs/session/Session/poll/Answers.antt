@@ -14,8 +14,8 @@ told-requires g c = asking-reply _ _ c.args.at _ c.call-answered.result c.call-a
 pub account_of-account-requires : goal.account_of-account-requires
 account_of-account-requires g c =
     let called = subst
-        (λ (s : SessionState). Called (g.H.Host.known c.args.host.now) (g.H.Host.known c.call-answered.new.self) c.args.at (Poll s.number) c.call-answered.result)
-        c.self.view_is c.call-answered.ensures in
+    (λ (s : SessionState). Called (g.H.Host.known c.args.host.now) (g.H.Host.known c.call-answered.new.self) c.args.at (Poll s.number) c.call-answered.result)
+    c.self.view_is c.call-answered.ensures in
     let given = poll-reply _ _ c.args.at c.args.self.now.number c.in-Some.grant c.call-answered.result called (c.requires.own c.in-Some.grant c.in-Some.is) in
     (record { pool = given.pool; own = given.own; borrowed = given.borrowed }, given.is)
 
