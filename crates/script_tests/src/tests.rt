@@ -18,6 +18,7 @@ mod limits;
 mod lines;
 mod options;
 mod queue;
+mod session_calls;
 mod statements;
 
 /// The words that most scripts here run with. T is 95 percent of 100 MiB, which is 99,614,720 bytes, the threshold of
