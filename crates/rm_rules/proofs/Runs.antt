@@ -37,7 +37,7 @@ use Rattle.rm_rules.proofs.Admitting.{one_or_none}
 use Rattle.rm_rules.proofs.Settling.{due-keeps, settled-keeps, rest-due}
 use Rattle.rm_rules.proofs.Changing.{IsTried, stays, changes, refuses, repeats, tells, IsChange, defines, opens, chooses, submits, collects, finishes, closes, session_of-is, session_of-found, tried-is}
 use Rattle.rm_rules.proofs.Stepping.{found-facts, none-found, outcome-turn}
-use Rattle.rm_rules.proofs.Laws.{healthy-step}
+use Rattle.rm_rules.proofs.Laws.{healthy-step, others-keep}
 use Rattle.rm_rules.proofs.Loud.{next-differs}
 use Rattle.rm_rules.proofs.Grants.{grant_of-found, runner-number, less-found, grants-step}
 
@@ -90,7 +90,7 @@ without-turn n m seat xs false e once h = record {
 }
 
 -- so no part of an event gives a session to another seat
-owned-found_at : (s : State) (at n seat : ℕ) → IsOwned n seat s.sessions → IsOwned n seat (found_at s at).sessions
+pub owned-found_at : (s : State) (at n seat : ℕ) → IsOwned n seat s.sessions → IsOwned n seat (found_at s at).sessions
 owned-found_at s at n seat h =
     due-keeps (λ t. IsOwned n seat t.sessions) (λ t w end among k. owned-with n w.session seat (phase.Ended end) t.sessions k) (moved_to s at) h
 
@@ -149,7 +149,7 @@ session_of-owned : (s : State) (seat n : ℕ) (x : Session) → IsOwned n seat s
 session_of-owned s seat n x owned called =
     ap (option_and_then (if_opened_by seat)) called ∙ ap (λ b. cond b (Some x) None) (eq-eqb x.seat seat (owned.owner x called))
 
-runs-open : (t : State) (n seat : ℕ) (r : Runner) → AreInPhase t.sessions t.waiting t.running → IsOwned n seat t.sessions → runner_of t.running n ≡ Some r
+pub runs-open : (t : State) (n seat : ℕ) (r : Runner) → AreInPhase t.sessions t.waiting t.running → IsOwned n seat t.sessions → runner_of t.running n ≡ Some r
     → (x : Session) × (session_of t seat n ≡ Some x) × (is_running x.phase ≡ true)
 runs-open t n seat r h owned found = turn (session_called t.sessions n) refl where
   turn : (o : Option Session) → session_called t.sessions n ≡ o → (x : Session) × (session_of t seat n ≡ Some x) × (is_running x.phase ≡ true)
@@ -157,7 +157,7 @@ runs-open t n seat r h owned found = turn (session_called t.sessions n) refl whe
   turn (Some x) called = (x, session_of-owned t seat n x owned called, ap is_running (sym (phase_of-found n t.sessions x called)) ∙ session-runs t n r h found)
 
 -- what a seat knows of the run of its session
-record IsRun (s : State) (seat session : ℕ) (run : Run) : Type 0 where
+pub record IsRun (s : State) (seat session : ℕ) (run : Run) : Type 0 where
   pub opener : Session
   pub open_session : session_of s seat session ≡ Some opener
   pub runner : Runner
@@ -170,15 +170,15 @@ run-turn s seat session run None q e f is = absurd (cc)
 run-turn s seat session run (Some x) None e f is = absurd (cc)
 run-turn s seat session run (Some x) (Some r) e f is = record { opener = x; open_session = e; runner = r; runs = f; is = let same : run_by r ≡ run = cc in same }
 
-run-is : (s : State) (seat session : ℕ) (run : Run) → run_of s seat session ≡ Some run → IsRun s seat session run
+pub run-is : (s : State) (seat session : ℕ) (run : Run) → run_of s seat session ≡ Some run → IsRun s seat session run
 run-is s seat session run is = run-turn s seat session run (session_of s seat session) (runner_of s.running session) refl refl is
 
-run-found : (s : State) (seat session : ℕ) (x : Session) (r : Runner) → session_of s seat session ≡ Some x → runner_of s.running session ≡ Some r → run_of s seat session ≡ Some (run_by r)
+pub run-found : (s : State) (seat session : ℕ) (x : Session) (r : Runner) → session_of s seat session ≡ Some x → runner_of s.running session ≡ Some r → run_of s seat session ≡ Some (run_by r)
 run-found s seat session x r found runs =
     ap (option_and_then (λ (_ : Session). option_map run_by (runner_of s.running session))) found ∙ ap (option_map run_by) runs
 
 -- its session is this seat's, with a number that was given
-owned-opened : (s : State) (seat n : ℕ) (x : Session) → session_of s seat n ≡ Some x → IsOwned n seat s.sessions
+pub owned-opened : (s : State) (seat n : ℕ) (x : Session) → session_of s seat n ≡ Some x → IsOwned n seat s.sessions
 owned-opened s seat n x found =
     let is = session_of-is s seat n x found in
     subst (λ k. IsOwned n k s.sessions) is.of_seat (owned-found n x s.sessions is.called)
@@ -274,17 +274,11 @@ runs-on s seat at owner session event run h formed is unless =
     run-found t owner session opener.0 r opener.1 runs ∙ ap (λ x. Some x) was.is
 
 -- also along a history of other seats
-others-turn : (seat : ℕ) (e : Entry) (es : List Entry) (b : Bool) → cond b (e ∷ own_entries seat es) (own_entries seat es) ≡ [] → (b ≡ false) × (own_entries seat es ≡ [])
-others-turn seat e es true none = absurd (cc)
-others-turn seat e es false none = (refl, none)
-
 pub runs-among : (s : State) (entries : List Entry) (owner session : ℕ) (run : Run) → IsHealthy s → IsLegal s entries → own_entries owner entries ≡ []
     → run_of s owner session ≡ Some run → run_of (replay s entries) owner session ≡ Some run
-runs-among s [] owner session run h legal others is = is
-runs-among s (e ∷ es) owner session run h legal others is =
-    let apart = others-turn owner e es (eqb e.seat owner) others in
-    runs-among (step s e.seat e.at e.event).state es owner session run (healthy-step s e.seat e.at e.event legal.0 h) legal.2 apart.1
-    (runs-on s e.seat e.at owner session e.event run h legal.0 is (λ _ same. false≢true (sym apart.0 ∙ eq-eqb e.seat owner same)))
+runs-among s entries owner session run h legal none is =
+    others-keep (λ t. run_of t owner session ≡ Some run) owner
+    (λ t seat at event apart healthy formed runs. runs-on t seat at owner session event run healthy formed runs (λ _. apart)) s entries h legal none is
 
 -- a Finish of a running session is not refused
 finish-found : (t : State) (seat session : ℕ) (x : Session) → session_of t seat session ≡ Some x → is_running x.phase ≡ true → attempted t seat (Finish session) ≡ finished t x

@@ -289,13 +289,13 @@ fn refused(alloc: Global, refusal: Refusal) -> Result<Turned, AllocError>
     Ok(Turned::Goes(bare_text(alloc, Reply::Refused(refusal))?))
 }
 
-/// Whether a statement creates or alters a pool. Other statements have no place in a script yet.
+/// Whether the machine takes a statement. DROP RESOURCE POOL has no place in a script yet.
 fn is_judged(statement: &Statement) -> bool
     ensures { result ≡ is_judged statement.now }
 {
     match statement {
-        Statement::CreatePool(..) | Statement::AlterPool(..) => true,
-        Statement::DropPool(_)
+        Statement::CreatePool(..)
+        | Statement::AlterPool(..)
         | Statement::CreateUser(..)
         | Statement::AlterUser(..)
         | Statement::DropUser(_)
@@ -305,6 +305,7 @@ fn is_judged(statement: &Statement) -> bool
         | Statement::GrantUsage(..)
         | Statement::RevokeUsage(..)
         | Statement::GrantRole(..)
-        | Statement::RevokeRole(..) => false,
+        | Statement::RevokeRole(..) => true,
+        Statement::DropPool(_) => false,
     }
 }
