@@ -114,15 +114,17 @@ last-lead catalog raw k us so_far whole = (λ a. ended k raw a us so_far whole, 
 
 unlimited-lead : (catalog : List CatalogTable) (raw : RawSelect) (k : Clause) (us : List Word) → IsSelect catalog k raw us → is_unlimited k ≡ true
     → is_whole k ≡ true → Lead catalog us (unlimited_edges raw)
-unlimited-lead catalog raw k us so_far open_end whole =
-    (λ a. due-means catalog raw k slot.Limit us (key_at a (codes "LIMIT") ∷ []) so_far (limit_to k a open_end),
-    last-lead catalog raw k us so_far whole)
+unlimited-lead catalog raw k us so_far open_end whole = (
+  λ a. due-means catalog raw k slot.Limit us (key_at a (codes "LIMIT") ∷ []) so_far (limit_to k a open_end),
+  last-lead catalog raw k us so_far whole,
+)
 
 unordered-lead : (catalog : List CatalogTable) (raw : RawSelect) (k : Clause) (us : List Word) → IsSelect catalog k raw us → is_unordered k ≡ true
     → is_unlimited k ≡ true → is_whole k ≡ true → Lead catalog us (unordered_edges raw)
-unordered-lead catalog raw k us so_far open_order open_end whole =
-    (λ a. record { behind = k; front = us; place = a; selects = so_far; unordered = open_order; are = refl },
-    unlimited-lead catalog raw k us so_far open_end whole)
+unordered-lead catalog raw k us so_far open_order open_end whole = (
+  λ a. record { behind = k; front = us; place = a; selects = so_far; unordered = open_order; are = refl },
+  unlimited-lead catalog raw k us so_far open_end whole,
+)
 
 edges-lead : (catalog : List CatalogTable) (raw : RawSelect) (k : Clause) (us : List Word) → IsSelect catalog k raw us
     → Lead catalog us (edges raw k)
@@ -130,18 +132,22 @@ edges-lead catalog raw clause.Begin us so_far =
     (λ a. due-means catalog raw clause.Begin slot.List us (key_at a (codes "SELECT") ∷ []) so_far (select a), tt)
 edges-lead catalog raw clause.All us so_far =
     (λ a. due-means catalog raw clause.All slot.Table us (key_at a (codes "FROM") ∷ []) so_far (from clause.All a refl), tt)
-edges-lead catalog raw clause.Items us so_far =
-    (λ a. due-means catalog raw clause.Items slot.Item us (sign_at a symbol.Comma ∷ []) so_far (item_comma a),
-    (λ a. due-means catalog raw clause.Items slot.Table us (key_at a (codes "FROM") ∷ []) so_far (from clause.Items a refl), tt))
-edges-lead catalog raw clause.Tables us so_far =
-    (λ a. due-means catalog raw clause.Tables slot.Test us (key_at a (codes "WHERE") ∷ []) so_far (filter a),
-    unordered-lead catalog raw clause.Tables us so_far refl refl refl)
-edges-lead catalog raw clause.Tests us so_far =
-    (λ a. due-means catalog raw clause.Tests slot.Test us (key_at a (codes "AND") ∷ []) so_far (and a),
-    unordered-lead catalog raw clause.Tests us so_far refl refl refl)
-edges-lead catalog raw clause.Keys us so_far =
-    (λ a. due-means catalog raw clause.Keys slot.Key us (sign_at a symbol.Comma ∷ []) so_far (key_comma a),
-    unlimited-lead catalog raw clause.Keys us so_far refl refl)
+edges-lead catalog raw clause.Items us so_far = (
+  λ a. due-means catalog raw clause.Items slot.Item us (sign_at a symbol.Comma ∷ []) so_far (item_comma a),
+  (λ a. due-means catalog raw clause.Items slot.Table us (key_at a (codes "FROM") ∷ []) so_far (from clause.Items a refl), tt),
+)
+edges-lead catalog raw clause.Tables us so_far = (
+  λ a. due-means catalog raw clause.Tables slot.Test us (key_at a (codes "WHERE") ∷ []) so_far (filter a),
+  unordered-lead catalog raw clause.Tables us so_far refl refl refl,
+)
+edges-lead catalog raw clause.Tests us so_far = (
+  λ a. due-means catalog raw clause.Tests slot.Test us (key_at a (codes "AND") ∷ []) so_far (and a),
+  unordered-lead catalog raw clause.Tests us so_far refl refl refl,
+)
+edges-lead catalog raw clause.Keys us so_far = (
+  λ a. due-means catalog raw clause.Keys slot.Key us (sign_at a symbol.Comma ∷ []) so_far (key_comma a),
+  unlimited-lead catalog raw clause.Keys us so_far refl refl,
+)
 edges-lead catalog raw clause.Limited us so_far = last-lead catalog raw clause.Limited us so_far refl
 
 led-means : (catalog : List CatalogTable) (raw : RawSelect) (k : Clause) (us : List Word) (w : Word) (q : Progress) → IsSelect catalog k raw us

@@ -105,8 +105,11 @@ reaches-scope catalog n (t ∷ tables) scope k h reach =
     let s = split n t (table_named catalog t.name) (scope_from catalog (n + 1) tables) scope h in
     let left : reaches catalog tables (k - length s.found.columns) ≡ true =
     sym (ap (λ o. behind_table o k (λ rest. reaches catalog tables rest)) s.is) ∙ reach in
-    omega (arith, split-length n t (table_named catalog t.name) (scope_from catalog (n + 1) tables) scope s,
-    reaches-scope catalog (n + 1) tables s.more (k - length s.found.columns) s.rest left)
+    omega (
+      arith,
+      split-length n t (table_named catalog t.name) (scope_from catalog (n + 1) tables) scope s,
+      reaches-scope catalog (n + 1) tables s.more (k - length s.found.columns) s.rest left,
+    )
 
 pub scope-few : (catalog : List CatalogTable) (raw : RawSelect) (scope : List Here) → list_all is_narrow catalog ≡ true
     → length raw.tables ≤ SELECT_TABLES_MOST → scope_from catalog 0 raw.tables ≡ Ok scope → length scope ≤ ROW_VALUES_MOST

@@ -298,10 +298,11 @@ after-column_as : (catalog : List CatalogTable) (raw : RawSelect) (s : Slot) (a 
 after-column_as catalog raw s a r ws w q None is takes read h = absurd (stops_goes q h)
 after-column_as catalog raw s _ _ _ w q (Some n) is takes (is_column_as a b r us column) h =
     let i : RawItem = record { place = a; column = r; name = Some n } in
-    subst (λ y. IsPartial catalog raw s y ((us ++ key_at b (codes "AS") ∷ []) ++ w ∷ [])) (goes_is (partial.Item i) q h)
-    (takes,
-    subst (λ l. IsItem i l) (sym (append_assoc us (key_at b (codes "AS") ∷ []) (w ∷ [])))
-    (subst (λ v. IsItem i (us ++ key_at b (codes "AS") ∷ v ∷ [])) (sym (word-name w n is)) (named_as a b w.place r n us column)))
+    subst (λ y. IsPartial catalog raw s y ((us ++ key_at b (codes "AS") ∷ []) ++ w ∷ [])) (goes_is (partial.Item i) q h) (
+      takes,
+      subst (λ l. IsItem i l) (sym (append_assoc us (key_at b (codes "AS") ∷ []) (w ∷ [])))
+          (subst (λ v. IsItem i (us ++ key_at b (codes "AS") ∷ v ∷ [])) (sym (word-name w n is)) (named_as a b w.place r n us column)),
+    )
 
 after-table_name : (catalog : List CatalogTable) (raw : RawSelect) (n : Name) (a : ℕ) (w : Word) (q : Partial) (o : Option Name)
     → name_of w.says ≡ o → called_turn n o ≡ Goes q → IsPartial catalog raw slot.Table q (name_at a n ∷ w ∷ [])
@@ -323,9 +324,10 @@ after-table_as : (catalog : List CatalogTable) (raw : RawSelect) (n : Name) (a b
 after-table_as catalog raw n a b w q None is h = absurd (stops_goes q h)
 after-table_as catalog raw n a b w q (Some m) is h =
     let t : RawTable = record { name = n; call = m } in
-    subst (λ y. IsPartial catalog raw slot.Table y (name_at a n ∷ key_at b (codes "AS") ∷ w ∷ [])) (goes_is (partial.Table t) q h)
-    (refl,
-    subst (λ v. IsTable t (name_at a n ∷ key_at b (codes "AS") ∷ v ∷ [])) (sym (word-name w m is)) (called_as a b w.place n m))
+    subst (λ y. IsPartial catalog raw slot.Table y (name_at a n ∷ key_at b (codes "AS") ∷ w ∷ [])) (goes_is (partial.Table t) q h) (
+      refl,
+      subst (λ v. IsTable t (name_at a n ∷ key_at b (codes "AS") ∷ v ∷ [])) (sym (word-name w m is)) (called_as a b w.place n m),
+    )
 
 negative-goes : (catalog : List CatalogTable) (raw : RawSelect) (which : Side) (us : List Word) (a b n : ℕ) (q : Partial) (o : Option ℤ)
     → negative_of n ≡ o → IsBeside which us → goes (int_read which o) ≡ Goes q
@@ -351,13 +353,15 @@ after-key : (catalog : List CatalogTable) (raw : RawSelect) (k : KeyBy) (ws : Li
     else (if c then Goes (partial.Key (record { by = k; falling = true })) else Ends (part.Key (record { by = k; falling = false })))) ≡ Goes q
     → IsPartial catalog raw slot.Key q (ws ++ w ∷ [])
 after-key catalog raw k ws w q true c is is_desc by h =
-    subst (λ y. IsPartial catalog raw slot.Key y (ws ++ w ∷ [])) (goes_is (partial.Key (record { by = k; falling = false })) q h)
-    (refl,
-    subst (λ v. IsKey catalog raw (record { by = k; falling = false }) (ws ++ v ∷ [])) (sym (word-key w (codes "ASC") is)) (rising w.place k ws by))
+    subst (λ y. IsPartial catalog raw slot.Key y (ws ++ w ∷ [])) (goes_is (partial.Key (record { by = k; falling = false })) q h) (
+      refl,
+      subst (λ v. IsKey catalog raw (record { by = k; falling = false }) (ws ++ v ∷ [])) (sym (word-key w (codes "ASC") is)) (rising w.place k ws by),
+    )
 after-key catalog raw k ws w q false true is is_desc by h =
-    subst (λ y. IsPartial catalog raw slot.Key y (ws ++ w ∷ [])) (goes_is (partial.Key (record { by = k; falling = true })) q h)
-    (refl,
-    subst (λ v. IsKey catalog raw (record { by = k; falling = true }) (ws ++ v ∷ [])) (sym (word-key w (codes "DESC") is_desc)) (falling w.place k ws by))
+    subst (λ y. IsPartial catalog raw slot.Key y (ws ++ w ∷ [])) (goes_is (partial.Key (record { by = k; falling = true })) q h) (
+      refl,
+      subst (λ v. IsKey catalog raw (record { by = k; falling = true }) (ws ++ v ∷ [])) (sym (word-key w (codes "DESC") is_desc)) (falling w.place k ws by),
+    )
 after-key catalog raw k ws w q false false is is_desc by h = absurd (ends_goes (part.Key (record { by = k; falling = false })) q h)
 
 -- a turn keeps what the words are
