@@ -12,10 +12,9 @@ use Rattle.query_plan.specs.declared.raw.RawKey.{RawKey}
 use Rattle.query_plan.specs.declared.raw.RawPart.{RawPart}
 use Rattle.query_plan.specs.declared.raw.RawSelect.{RawSelect}
 use Rattle.query_plan.specs.declared.raw.Slot.{Slot}
-use Rattle.query_plan.specs.declared.raw.Slot.TheVariants as slot
-use Rattle.query_plan.specs.Raw.{added, empty, has_room}
+use Rattle.query_plan.specs.Raw.{added, has_room}
 use Rattle.query_plan.specs.Word.{Word}
-use Rattle.query_plan.specs.Grammar.{IsKey, undirected, rising, falling, IsKeyBy, by_name, by_number, IsPart, all, item, table, test, key, limit, IsSelect, nothing, more, Leads, select, item_comma, from, filter, and, order_by, key_comma, limit_to, Spells, unended, ended, clause_of, is_list, is_unlimited, is_unordered, is_whole, takes_item}
+use Rattle.query_plan.specs.Grammar.{IsKey, undirected, rising, falling, IsKeyBy, by_name, by_number, IsPart, all, item, table, test, key, limit, IsSelect, nothing, more, Leads, select, item_comma, from, filter, and, order_by, key_comma, limit_to, Spells, unended, ended, clause_of, is_list, is_unlimited, is_unordered, is_whole}
 use Rattle.query_plan.specs.Resolving.{IsRaw, is_key_listed}
 
 -- how many tables stand before the end of a clause

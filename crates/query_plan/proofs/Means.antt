@@ -1,8 +1,8 @@
 -- what the words of a SELECT so far are, by where the reading of them is
-use Rattle.std.proofs.Common.{◌≡◌, ℕ, Bool, true, false, if◌then◌else◌, Option, Some, None, Ok, Err, List, [], ◌∷◌, ◌++◌, refl, sym, ◌∙◌, ap, subst, append_assoc, append-nil, codes}
+use Rattle.std.proofs.Common.{◌≡◌, ℕ, Bool, true, false, if◌then◌else◌, Option, Some, None, Ok, List, [], ◌∷◌, ◌++◌, refl, sym, ◌∙◌, ap, subst, append_assoc, append-nil, codes}
 use Rattle.rm_base.specs.declared.catalog.CatalogTable.{CatalogTable}
 use Rattle.rm_words.specs.declared.token.Symbol.TheVariants as symbol
-use Rattle.rm_words.specs.Token.{Token, is_key}
+use Rattle.rm_words.specs.Token.{is_key}
 use Rattle.rm_words.specs.Reading.{onward, run}
 use Rattle.rm_words.proofs.Results.{some_is, none_some, ok_is, err_ok}
 use Rattle.query_plan.specs.declared.part.Clause.{Clause}
@@ -19,7 +19,7 @@ use Rattle.query_plan.specs.declared.raw.Slot.{Slot}
 use Rattle.query_plan.specs.declared.raw.Slot.TheVariants as slot
 use Rattle.query_plan.specs.Raw.{added, empty, has_room}
 use Rattle.query_plan.specs.Word.{Word, key_at, sign_at}
-use Rattle.query_plan.specs.Grammar.{IsSelect, nothing, more, Leads, select, item_comma, from, filter, and, order_by, key_comma, limit_to, Spells, unended, ended, clause_of, is_list, is_unlimited, is_unordered, is_whole}
+use Rattle.query_plan.specs.Grammar.{IsSelect, nothing, more, Leads, select, item_comma, from, filter, and, order_by, key_comma, limit_to, Spells, unended, ended, clause_of, is_unlimited, is_unordered, is_whole}
 use Rattle.query_plan.specs.Machine.{Edge, Mark, Key, Comma, Semicolon, begun, closed, edges, finish, is_mark, last_edges, led, on_edge, or_stops, part_of, reader, step, turn, turned, unlimited_edges, unordered_edges}
 use Rattle.query_plan.proofs.Parts.{IsPartial, partial-part}
 use Rattle.query_plan.proofs.Tokens.{goes-some, word-comma, word-key, word-semicolon}

@@ -1,10 +1,9 @@
 -- what a turn makes of a part so far
-use Rattle.std.proofs.Common.{◌≡◌, ℕ, ℤ, Bool, true, false, nat_le, if◌then◌else◌, Option, Some, None, option_map, List, [], ◌∷◌, ◌++◌, refl, sym, ◌∙◌, ap, subst, append_assoc, codes}
+use Rattle.std.proofs.Common.{◌≡◌, ℕ, ℤ, Bool, true, false, nat_le, if◌then◌else◌, Option, Some, None, option_map, List, [], ◌∷◌, ◌++◌, refl, sym, ap, subst, append_assoc, codes}
 use Rattle.rm_base.specs.declared.catalog.CatalogTable.{CatalogTable}
 use Rattle.rm_base.specs.declared.limits.TheConstants.{LIMIT_MOST}
 use Rattle.rm_base.specs.declared.name.Name.{Name}
 use Rattle.rm_base.specs.declared.select.Op.{Op}
-use Rattle.rm_words.specs.declared.token.Symbol.{Symbol}
 use Rattle.rm_words.specs.declared.token.Symbol.TheVariants as symbol
 use Rattle.rm_words.specs.Names.{name_of}
 use Rattle.rm_words.specs.Token.{Token, Bare, Number, Quoted, Sign, is_key, undoubled}
@@ -15,12 +14,10 @@ use Rattle.query_plan.specs.declared.part.Purpose.{Purpose}
 use Rattle.query_plan.specs.declared.part.Purpose.TheVariants as purpose
 use Rattle.query_plan.specs.declared.part.Side.{Side}
 use Rattle.query_plan.specs.declared.part.Side.TheVariants as side
-use Rattle.query_plan.specs.declared.part.Turn.{Turn}
-use Rattle.query_plan.specs.declared.part.Turn.TheVariants.{Goes, Ends, Stops}
+use Rattle.query_plan.specs.declared.part.Turn.TheVariants.{Goes, Ends}
 use Rattle.query_plan.specs.declared.raw.KeyBy.{KeyBy}
 use Rattle.query_plan.specs.declared.raw.KeyBy.TheVariants as by
 use Rattle.query_plan.specs.declared.raw.RawItem.{RawItem}
-use Rattle.query_plan.specs.declared.raw.RawKey.{RawKey}
 use Rattle.query_plan.specs.declared.raw.RawOperand.{RawOperand}
 use Rattle.query_plan.specs.declared.raw.RawOperand.TheVariants as operand
 use Rattle.query_plan.specs.declared.raw.RawPart.{RawPart}
@@ -33,8 +30,8 @@ use Rattle.query_plan.specs.declared.raw.Slot.TheVariants as slot
 use Rattle.query_plan.specs.Raw.{has_room}
 use Rattle.query_plan.specs.Scope.{is_listed}
 use Rattle.query_plan.specs.Word.{Word, key_at, name_at, number_at, quoted_at, sign_at}
-use Rattle.query_plan.specs.Grammar.{IsColumn, unqualified, qualified, IsItem, unnamed, named_as, IsTable, uncalled, called, called_as, IsOperand, of_column, of_number, of_negative, of_text, IsKeyBy, by_name, by_number, IsKey, undirected, rising, falling, bare_column, int_of, negative_of, op_of, qualified_column, takes_item}
-use Rattle.query_plan.specs.Machine.{alias_turn, begun, begun_in, call_turn, called_turn, column_read, column_turn, dotted_turn, goes, int_read, is_dot, item_begun, item_of, key_begun, key_turn, left_turn, limit_begun, list_begun, minus_turn, named_turn, op_in, operand_begun, operand_read, part_of, table_turn, test_of, turn, unqualified_part, unqualified_turn}
+use Rattle.query_plan.specs.Grammar.{IsColumn, unqualified, qualified, IsItem, named_as, IsTable, called, called_as, IsOperand, of_column, of_number, of_negative, of_text, IsKeyBy, by_name, by_number, IsKey, rising, falling, bare_column, int_of, negative_of, qualified_column, takes_item}
+use Rattle.query_plan.specs.Machine.{alias_turn, begun, begun_in, call_turn, called_turn, column_read, dotted_turn, goes, int_read, is_dot, item_begun, item_of, key_begun, limit_begun, list_begun, minus_turn, named_turn, op_in, operand_begun, operand_read, part_of, test_of, turn, unqualified_part, unqualified_turn}
 use Rattle.query_plan.proofs.Parts.{IsBeside, beside_left, beside_right, IsBefore, before_item, before_operand, IsNamed, is_named, IsDotted, is_dotted, IsColumnAs, is_column_as, IsMinus, is_minus, IsPartial, column-means, operand-means}
 use Rattle.query_plan.proofs.Tokens.{ends_goes, ends_is, goes-no_end, goes-some, goes_ends, goes_is, stops_ends, stops_goes, word-dot, word-key, word-name}
 
