@@ -45,6 +45,7 @@ impl Watch for StoppingWatch {
     ghost stop = { λ w. w.stop };
 
     fn check(&mut self, steps: u64) -> Watched
+        requires { self.old.stop ≡ None }
         ensures handed { self.new.handed ≡ counted self.old.handed steps }
         ensures stop { self.new.stop ≡ stop_in result }
         ensures stops { (result ≡ Stop self.old.reply) ↔ (self.old.left ≡ 0) }
