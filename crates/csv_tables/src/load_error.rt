@@ -15,6 +15,7 @@ pub enum LoadError {
     Rows,
     /// A row takes the measure above its limit.
     TooLarge,
+    /// Memory was wanting.
     Memory,
 }
 

@@ -1,5 +1,5 @@
 -- What is done again and again, one turn at a time.
-use Rattle.std.proofs.Common.{◌≡◌, ℕ, ◌+◌, zero, suc, Option, Some, None, length, refl, sym, ap, ◌∙◌, arith}
+use Rattle.std.proofs.Common.{◌≡◌, ℕ, ◌+◌, zero, suc, Option, Some, None, length, sym, ap, ◌∙◌, arith}
 use Rattle.rm_rules.specs.declared.state.Waiter.{Waiter}
 use Rattle.rm_rules.specs.State.{State}
 use Rattle.rm_rules.specs.Repeated.{repeated}

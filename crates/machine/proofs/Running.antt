@@ -1,13 +1,14 @@
 -- A running query by its session, and by its place.
-use Rattle.std.proofs.Common.{◌≡◌, ◌≤◌, ◌<◌, ℕ, ◌+◌, suc, Bool, true, false, not, cond, eqb, Option, Some, None, List, [], ◌∷◌, ◌++◌, length, get_or, take, drop, refl, sym, ap, ◌∙◌, take_while, take-append-drop, arith, count_by}
+use Rattle.std.proofs.Common.{◌≡◌, ◌≤◌, ◌<◌, ℕ, ◌+◌, suc, Bool, true, false, not, cond, eqb, Option, Some, None, List, [], ◌∷◌, ◌++◌, length, get_or, take, drop, sym, ap, ◌∙◌, take_while, take-append-drop, arith, count_by}
 use Rattle.std.specs.List.{find, prefix_len}
 use Rattle.std.proofs.lemmas.List.{drop_more}
 use Rattle.rm_rules.specs.declared.state.Runner.{Runner}
-use Rattle.rm_rules.specs.State.{State, without, without_runner}
+use Rattle.rm_rules.specs.State.{State, without_runner}
 use Rattle.rm_rules.specs.Holdings.{holding, holdings, holdings_of}
 use Rattle.rm_rules.specs.Accounting.{account_behind}
 use Rattle.rm_rules.specs.Change.{runner_of}
 use Rattle.rm_rules.specs.Healthy.{AreNumbered}
+use Rattle.rm_rules.proofs.Found.{without-unfound}
 use Rattle.accounts.specs.Accounts.{account_of}
 use Rattle.accounts.proofs.Standing.{account-stands}
 
@@ -52,16 +53,7 @@ pub account-at : (s : State) (i : ℕ) (r : Runner) → AreNumbered s.last_query
 account-at s i r numbered within at =
     account-stands s (take i s.running) (drop (i + 1) s.running) r (once-running s numbered) (parted s.running i r within at)
 
--- where none is found, none is taken out
-none-turn : {A : Type 0} (test : A → Bool) (x : A) (xs : List A) (b : Bool) → (let n : Option A = None in cond b (Some x) (find test xs) ≡ n) → ((let n : Option A = None in find test xs ≡ n) → without test xs ≡ xs)
-    → cond b xs (x ∷ without test xs) ≡ x ∷ xs
-none-turn test x xs true absent rest = absurd (cc)
-none-turn test x xs false absent rest = ap (λ l. x ∷ l) (rest absent)
-
-none-without : {A : Type 0} (test : A → Bool) (xs : List A) → (let n : Option A = None in find test xs ≡ n) → without test xs ≡ xs
-none-without test [] absent = refl
-none-without test (x ∷ xs) absent = none-turn test x xs (test x) absent (none-without test xs)
-
+-- where none is found, none leaves
 pub none-leaves : (s : State) (session : ℕ) → (let n : Option Runner = None in runner_of s.running session ≡ n) → s ≡ record s { running = without_runner session s.running }
 none-leaves s session absent =
-    ap (λ (rs : List Runner). let t : State = record s { running = rs } in t) (sym (none-without (λ (r : Runner). eqb r.session session) s.running absent))
+    ap (λ (rs : List Runner). let t : State = record s { running = rs } in t) (sym (without-unfound (λ (r : Runner). eqb r.session session) s.running absent))

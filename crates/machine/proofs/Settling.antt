@@ -4,30 +4,30 @@ use Rattle.std.specs.List.{find, list_all}
 use Rattle.std.proofs.lemmas.Bool.{eqb-true, eq-eqb}
 use Rattle.std.proofs.lemmas.List.Sums.{count_by-le-length}
 use Rattle.rm_base.specs.declared.limits.TheConstants.{SESSIONS_MOST}
-use Rattle.rm_base.specs.declared.reply.End.{End}
 use Rattle.rm_rules.specs.declared.state.Waiter.{Waiter}
 use Rattle.rm_rules.specs.declared.state.Session.{Session}
 use Rattle.rm_rules.specs.declared.state.Runner.{Runner}
 use Rattle.rm_rules.specs.Definitions.{pool_row}
 use Rattle.rm_rules.specs.Ask.{is_too_large}
-use Rattle.rm_rules.specs.State.{State, phase_of, is_active, is_waiting, without_waiter}
+use Rattle.rm_rules.specs.State.{State, phase_of, is_active, is_waiting, without, without_waiter}
 use Rattle.rm_rules.specs.Holdings.{holdings_of}
 use Rattle.rm_rules.specs.Accounting.{need, free}
 use Rattle.rm_rules.specs.Admission.{ask_of, first_entitled, admitted, admission}
 use Rattle.rm_rules.specs.Shuffle.{shuffled_state}
-use Rattle.rm_rules.specs.Deadlines.{ended_as, first_due, first_nowait, timed_out, without_due}
+use Rattle.rm_rules.specs.Deadlines.{first_due, first_nowait, timed_out, without_due}
 use Rattle.rm_rules.specs.Settle.{first_too_large, too_large_end, ended_too_large, without_too_large, without_nowait}
 use Rattle.rm_rules.specs.Answers.{waiter_of, queue_place}
 use Rattle.rm_rules.specs.Sound.{has_pool}
 use Rattle.rm_rules.specs.Healthy.{AreInPhase, AreNumbered, IsHealthyWith}
 use Rattle.rm_rules.proofs.Taken.{found_passes, all_among, counted_among}
+use Rattle.rm_rules.proofs.Found.{without-unfound}
 use Rattle.rm_rules.proofs.Queue.{IsAmong, found_among, without-fewer, first_entitled_fits, enough}
 use Rattle.rm_rules.proofs.Phases.{one_if-most}
 use Rattle.rm_rules.proofs.Ending.{unsettled-ended, healthy-ended}
 use Rattle.rm_rules.proofs.Admitting.{healthy-admitted}
 use Rattle.rm_rules.proofs.Settling.{too_large-among, nowait-among, due-among, entitled-among, deadline_end, healthy-shuffled}
 use Rattle.rm_rules.proofs.SettledLaws.{none_without}
-use Rattle.pool_queue.specs.Queue.{query_of, place_of_query}
+use Rattle.pool_queue.specs.Queue.{is_query, query_of, place_of_query}
 use Rattle.pool_queue.proofs.ByNumber.{waits-by_number, found-by_number, left-by_number, place-by_number}
 use Rattle.machine.specs.Settling.{CanSettle, IsSettling, MayLeave}
 use Rattle.machine.proofs.Looping.{turns-on, turns-end}
@@ -45,6 +45,24 @@ may-leave s w h numbered among = record {
   waits = waits-by_number s.waiting among.front among.rest w among.split;
   same = left-by_number s.waiting among.front among.rest w (once s numbered) (alone s h) among.split;
 }
+
+-- that of a session waits, and leaves by its session; where the session has none, none leaves
+pub session-may-leave : (s : State) (session : ℕ) (w : Waiter) → AreInPhase s.sessions s.waiting s.running → AreNumbered s.last_query s.waiting s.running → waiter_of s.waiting session ≡ Some w
+    → MayLeave s.waiting w
+session-may-leave s session w h numbered found = may-leave s w h numbered (found_among (λ x. eqb x.session session) w s.waiting found)
+
+pub session-left : (s m : State) (session : ℕ) (w : Waiter) (left : List Waiter) → m ≡ s → AreInPhase s.sessions s.waiting s.running → AreNumbered s.last_query s.waiting s.running
+    → waiter_of s.waiting session ≡ Some w → left ≡ without (is_query w.query) m.waiting → record m { waiting = left } ≡ record s { waiting = without_waiter session s.waiting }
+session-left s m session w left same h numbered found is =
+    let of_session : w.session ≡ session = eqb-true w.session session (found_passes (λ (x : Waiter). eqb x.session session) w s.waiting found) in
+    let now : left ≡ without_waiter session s.waiting =
+    is ∙ ap (λ (t : State). without (is_query w.query) t.waiting) same ∙ (session-may-leave s session w h numbered found).same ∙ ap (λ n. without_waiter n s.waiting) of_session in
+    ap (λ (ws : List Waiter). let t : State = record m { waiting = ws } in t) now
+    ∙ ap (λ (t : State). let u : State = record t { waiting = without_waiter session s.waiting } in u) same
+
+pub none-left : (s : State) (session : ℕ) → (let o : Option Waiter = None in waiter_of s.waiting session ≡ o) → s ≡ record s { waiting = without_waiter session s.waiting }
+none-left s session absent =
+    ap (λ (ws : List Waiter). let t : State = record s { waiting = ws } in t) (sym (without-unfound (λ (x : Waiter). eqb x.session session) s.waiting absent))
 
 -- a query that is picked is found by its number
 by_number : (s : State) (o : Option Waiter) (q : ℕ) → AreNumbered s.last_query s.waiting s.running → ((w : Waiter) → o ≡ Some w → IsAmong w s.waiting) → query_of o ≡ Some q

@@ -15,7 +15,7 @@ use Rattle.rm_rules.specs.State.{State, start, none_ended, counted_entries}
 use Rattle.rm_rules.specs.Holdings.{Holdings, reserves_of}
 use Rattle.accounts.specs.Accounts.{first_holdings}
 use Rattle.machine.specs.declared.machine.Machine.TheInside.{Inside}
-use Rattle.machine.specs.Inside.{seen, IsTied}
+use Rattle.machine.specs.Inside.{IsTied}
 use Rattle.machine.proofs.Inside.{bytes_under}
 
 -- each pool has its MEMORYSIZE

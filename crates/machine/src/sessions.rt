@@ -1,6 +1,6 @@
 //! Sessions, and the queries of a session.
 ghost use Rattle.std.specs.Prelude.{◌≡◌, ◌<◌, ◌≤◌, ◌==◌, IfSome, position, length};
-ghost use Rattle.rm_rules.specs.State.{session_called, phase_of, with_phase, with_choice, without_runner, is_idle, is_running, is_ended, live_queries};
+ghost use Rattle.rm_rules.specs.State.{session_called, phase_of, with_phase, with_choice, without_session, without_runner, is_idle, is_running, is_ended, live_queries};
 ghost use Rattle.rm_rules.specs.Change.{has_chosen, runner_of};
 ghost use Rattle.rm_rules.specs.Answers.{waiter_of};
 
@@ -118,6 +118,15 @@ pub fn set_choice(sessions: &mut Sessions, number: u32, pool: Name)
                 ..session
             },
         );
+    }
+}
+
+/// The session of this number is gone.
+pub fn remove_session(sessions: &mut Sessions, number: u32)
+    ensures { sessions.new ≡ without_session number sessions.old }
+{
+    if let Some(place) = place_of_session(sessions.rows(), number) {
+        sessions.remove(place);
     }
 }
 

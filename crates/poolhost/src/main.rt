@@ -24,12 +24,13 @@ SIZE is digits and one of K, M, G, T, from 16M to 1024T; COUNT is 1 to 1024.
 Lines of a script:
   at N                 moves the script's moment on to N milliseconds
   sql TEXT             defines a pool: CREATE RESOURCE POOL .. or ALTER RESOURCE POOL ..
-  open S dbadmin       opens a session that the script names S
-  open S dbadmin POOL  opens it, and S chooses the pool
+  open S USER          opens a session of USER that the script names S
+  open S USER POOL     opens it, and S chooses the pool
   set S pool POOL      S chooses the pool
   ask S FLOOR          submits a query of S that needs at least FLOOR bytes
   poll S               tells what became of the query of S
   done S               ends the query of S
+  close S              closes the session
 Empty lines and lines that begin with # print nothing.";
 
 /// The words of the command line, without the program's own.

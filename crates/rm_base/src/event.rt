@@ -10,4 +10,5 @@ pub enum Event {
     Submit { session: u32, floor: u64 },
     Poll { session: u32 },
     Finish { session: u32 },
+    Close { session: u32 },
 }

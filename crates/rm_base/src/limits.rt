@@ -101,9 +101,6 @@ pub const SCRIPT_MOST: usize = 67_108_864;
 /// The longest line of a script, in bytes, its line end not counted.
 pub const LINE_MOST: usize = 65_536;
 
-/// The most lines of a script.
-pub const LINES_MOST: u64 = 4_096;
-
 /// The most digits of a number in a script, leading zeros counted.
 pub const DIGITS_MOST: usize = 15;
 

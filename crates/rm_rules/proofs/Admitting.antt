@@ -31,7 +31,7 @@ waiting-just phase.Waiting h = record { idle = refl; running = refl; ended = ref
 waiting-just phase.Running h = absurd (false≢true h)
 waiting-just (phase.Ended end) h = absurd (false≢true h)
 
-one_or_none : (b : Bool) → 1 ≤ one_if b → b ≡ true
+pub one_or_none : (b : Bool) → 1 ≤ one_if b → b ≡ true
 one_or_none true h = refl
 one_or_none false h = absurd (omega arith)
 

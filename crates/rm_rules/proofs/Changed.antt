@@ -1,5 +1,5 @@
 -- A list in which the first that passes a test is changed, and one in which an item comes or leaves.
-use Rattle.std.proofs.Common.{◌≡◌, ℕ, ◌+◌, Bool, true, false, cond, eqb, List, [], ◌∷◌, ◌++◌, length, Some, None, Option, refl, sym, ap, ◌∙◌, arith, sum_by, count_by}
+use Rattle.std.proofs.Common.{◌≡◌, ℕ, ◌+◌, Bool, true, false, cond, eqb, List, [], ◌∷◌, ◌++◌, length, Some, None, Option, refl, sym, ap, ◌∙◌, subst, arith, sum_by, count_by}
 use Rattle.std.specs.Prelude.{option_map}
 use Rattle.std.specs.Option.{is_some}
 use Rattle.std.specs.List.{find, list_all}
@@ -10,6 +10,7 @@ use Rattle.rm_base.specs.Ranges.{passes_if_set}
 use Rattle.rm_rules.specs.State.{without}
 use Rattle.rm_rules.specs.Healthy.{one_if}
 use Rattle.rm_rules.proofs.Taken.{sum_without, length_without, found_passes, and_left, and_right, and_both, all_without, all_push}
+use Rattle.rm_rules.proofs.Found.{without-unfound}
 use Rattle.rm_rules.proofs.Places.{changed_first}
 
 -- the sum with what is found changed
@@ -79,6 +80,17 @@ pub other-changed : {A : Type 0} (test other : A → Bool) (act : A → A) (xs :
 other-changed test other act [] apart kept = refl
 other-changed test other act (x ∷ xs) apart kept = other-turn test other act x xs (test x) (apart x) (kept x) (other-changed test other act xs apart kept)
 
+-- what is taken out is gone, however it was changed
+gone-turn : {A : Type 0} (test : A → Bool) (act : A → A) (x : A) (xs : List A) (b : Bool) → test x ≡ b → test (act x) ≡ test x
+    → without test (changed_first test act xs) ≡ without test xs → without test (cond b (act x ∷ xs) (x ∷ changed_first test act xs)) ≡ cond b xs (x ∷ without test xs)
+gone-turn test act x xs true e kept rest = ap (λ c. cond c xs (act x ∷ without test xs)) (kept ∙ e)
+gone-turn test act x xs false e kept rest = ap (λ c. cond c (changed_first test act xs) (x ∷ without test (changed_first test act xs))) e ∙ ap (λ l. x ∷ l) rest
+
+pub without-changed : {A : Type 0} (test : A → Bool) (act : A → A) (xs : List A) → ((x : A) → test (act x) ≡ test x)
+    → without test (changed_first test act xs) ≡ without test xs
+without-changed test act [] kept = refl
+without-changed test act (x ∷ xs) kept = gone-turn test act x xs (test x) refl (kept x) (without-changed test act xs kept)
+
 -- of an item that is there, or of none
 abbrev pub of_one : {A : Type 0} → (A → ℕ) → Option A → ℕ
 of_one f None = 0
@@ -114,6 +126,13 @@ turns-come key n y xs of = record {
   has_key = eq-eqb (key y) n of;
   all = λ p all here. all_push p xs y all here;
 }
+
+-- the item of this key leaves, where there is one
+pub turns-without : {A : Type 0} (key : A → ℕ) (n : ℕ) (xs : List A) → Turns key n (find (λ x. eqb (key x) n) xs) None xs (without (λ x. eqb (key x) n) xs)
+turns-without {A} key n xs = turn (find (λ x. eqb (key x) n) xs) refl where
+  turn : (o : Option A) → find (λ x. eqb (key x) n) xs ≡ o → Turns key n o None xs (without (λ x. eqb (key x) n) xs)
+  turn None absent = subst (Turns key n None None xs) (sym (without-unfound (λ x. eqb (key x) n) xs absent)) (turns-stay key n xs)
+  turn (Some y) found = turns-leave key n y xs found
 
 neither : (b : Bool) → cond {A = ℕ} b 0 0 ≡ 0
 neither true = refl

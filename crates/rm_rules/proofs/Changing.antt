@@ -6,7 +6,7 @@ use Rattle.std.proofs.lemmas.Bool.{eqb-true, false≢true}
 use Rattle.rm_base.specs.declared.limits.TheConstants.{SESSIONS_MOST}
 use Rattle.rm_base.specs.declared.definitions.Definitions.{Definitions}
 use Rattle.rm_base.specs.declared.event.Event.{Event}
-use Rattle.rm_base.specs.declared.event.Event.TheVariants.{Define, Open, SetPool, Submit, Poll, Finish}
+use Rattle.rm_base.specs.declared.event.Event.TheVariants.{Define, Open, SetPool, Submit, Poll, Finish, Close}
 use Rattle.rm_base.specs.declared.name.Name.{Name}
 use Rattle.rm_base.specs.declared.refusal.Refusal.{Refusal}
 use Rattle.rm_base.specs.declared.refusal.Refusal.TheVariants as refusal
@@ -19,14 +19,15 @@ use Rattle.rm_rules.specs.declared.state.Phase.{Phase}
 use Rattle.rm_rules.specs.declared.state.Phase.TheVariants as phase
 use Rattle.rm_rules.specs.declared.state.Session.{Session}
 use Rattle.rm_rules.specs.Definitions.{pool_row, user_called, usage}
-use Rattle.rm_rules.specs.Acceptance.{accepted, pool_missing}
+use Rattle.rm_rules.specs.Refusals.{pool_missing, user_missing}
+use Rattle.rm_rules.specs.Acceptance.{accepted}
 use Rattle.rm_rules.specs.Ask.{is_too_large}
 use Rattle.rm_rules.specs.State.{State, session_called, session_of, if_opened_by, session_pool, with_choice, is_idle, is_active, is_running, live_queries}
-use Rattle.rm_rules.specs.Change.{Change, quiet, changing, with_session, user_missing, size_refusal, session_busy, not_live, not_running, usage_missing, sessions_full, journal_full, is_journal_full, defined, defining_to, opened, opening_refusal, has_chosen, chosen, choosing_refusal, choosing, submitted, submitting_refusal, submitting, polled, polling, collected, finished, finishing, change, tried}
+use Rattle.rm_rules.specs.Change.{Change, quiet, changing, with_session, size_refusal, session_busy, not_live, not_running, usage_missing, sessions_full, journal_full, is_journal_full, defined, defining_to, opened, opening_refusal, has_chosen, chosen, choosing_refusal, choosing, submitted, submitting_refusal, submitting, polled, polling, collected, finished, finishing, session_running, closed, closing, change, tried}
 use Rattle.rm_rules.specs.Answers.{is_defining}
 use Rattle.rm_rules.specs.Sound.{has_pool}
 use Rattle.rm_rules.proofs.Taken.{found_passes, not_true}
-use Rattle.rm_rules.proofs.AcceptanceLaws.{not-refused, first-none, not_above, unless-ok}
+use Rattle.rm_rules.proofs.Refused.{not-refused, first-none, not_above, unless-ok}
 
 -- the session that an event speaks of
 of_seat-turn : (seat : ℕ) (x : Session) (o : Option Session) → option_and_then (if_opened_by seat) o ≡ Some x → (o ≡ Some x) × (x.seat ≡ seat)
@@ -140,6 +141,7 @@ pub data IsChange (s : State) (seat : ℕ) : Event → Change → Type 0 where
   collects : (session : ℕ) (x : Session) (end : End) → session_of s seat session ≡ Some x → x.phase ≡ phase.Ended end
       → IsChange s seat (Poll session) (collected s x end)
   finishes : (session : ℕ) (x : Session) → session_of s seat session ≡ Some x → is_running x.phase ≡ true → IsChange s seat (Finish session) (finished s x)
+  closes : (session : ℕ) (x : Session) → session_of s seat session ≡ Some x → is_running x.phase ≡ false → IsChange s seat (Close session) (closed s x)
 
 -- what an event does where it changes nothing
 pub data IsQuiet (s : State) (seat : ℕ) : Event → Answer → Type 0 where
@@ -208,6 +210,11 @@ ok-tried s seat (Finish session) c ok =
     let made = unless-ok (not_running x) (finished s x) c found.2 in
     made-change s seat (Finish session) (finished s x) c made.1 refl
     (finishes session x found.1 (not_true _ (not-refused (not (is_running x.phase)) _ made.0)))
+ok-tried s seat (Close session) c ok =
+    let found = with_session-ok s seat session (closing s) c ok in
+    let x = found.0 in
+    let made = unless-ok (session_running x) (closed s x) c found.2 in
+    made-change s seat (Close session) (closed s x) c made.1 refl (closes session x found.1 (not-refused (is_running x.phase) _ made.0))
 
 tried-turn : (s : State) (seat : ℕ) (event : Event) (r : Result Change Refusal) → change s seat event ≡ r → IsTried s seat event (tried s r)
 tried-turn s seat event (Err refusal) is = stays (Says (reply.Refused refusal)) (refuses event refusal is)
@@ -230,6 +237,7 @@ rest-changed s seat _ _ (chooses session pool x found may other) = record { jour
 rest-changed s seat _ _ (submits session floor x found may) = record { journal = refl; clock = refl; room = refl; in_force = refl }
 rest-changed s seat _ _ (collects session x end found ended) = record { journal = refl; clock = refl; room = refl; in_force = refl }
 rest-changed s seat _ _ (finishes session x found runs) = record { journal = refl; clock = refl; room = refl; in_force = refl }
+rest-changed s seat _ _ (closes session x found rests) = record { journal = refl; clock = refl; room = refl; in_force = refl }
 
 pub rest-tried : (s : State) (seat : ℕ) (event : Event) (c : Change) → IsTried s seat event c → LeavesJournal s c.state
 rest-tried s seat event _ (stays answer still) = record { journal = refl; clock = refl; room = refl; in_force = refl }

@@ -1,7 +1,7 @@
 -- The memory in force rises only where a statement raises the total.
 use Rattle.std.proofs.Common.{◌≡◌, ℕ, ◌≤◌, ◌||◌, refl, ap, arith, max}
 use Rattle.rm_base.specs.declared.event.Event.{Event}
-use Rattle.rm_base.specs.declared.event.Event.TheVariants.{Define, Open, SetPool, Submit, Poll, Finish}
+use Rattle.rm_base.specs.declared.event.Event.TheVariants.{Define, Open, SetPool, Submit, Poll, Finish, Close}
 use Rattle.rm_rules.specs.Definitions.{total}
 use Rattle.rm_rules.specs.State.{State}
 use Rattle.rm_rules.specs.Settle.{settled}
@@ -11,7 +11,7 @@ use Rattle.rm_rules.specs.Replay.{IsFormed}
 use Rattle.rm_rules.specs.Healthy.{IsUnsettled, IsHealthy}
 use Rattle.rm_rules.specs.Grants.{RaisesForce}
 use Rattle.rm_rules.proofs.Settling.{due-keeps, rest-settled, rest-due, force-settled}
-use Rattle.rm_rules.proofs.Changing.{IsTried, stays, changes, IsChange, defines, opens, chooses, submits, collects, finishes, tried-is}
+use Rattle.rm_rules.proofs.Changing.{IsTried, stays, changes, IsChange, defines, opens, chooses, submits, collects, finishes, closes, tried-is}
 use Rattle.rm_rules.proofs.Answering.{beside-answered}
 use Rattle.rm_rules.proofs.Stepping.{unsettled-tried, outcome-turn}
 
@@ -22,6 +22,7 @@ force-least s t (SetPool session pool) least = least
 force-least s t (Submit session floor) least = least
 force-least s t (Poll session) least = least
 force-least s t (Finish session) least = least
+force-least s t (Close session) least = least
 
 -- the definitions are those before the event, but for a statement
 force-changed : (s t : State) (seat : ℕ) (event : Event) (c : Change) → IsChange t seat event c → t.definitions ≡ s.definitions → t.in_force ≡ s.in_force
@@ -33,6 +34,7 @@ force-changed s t seat _ _ (chooses session pool x found may other) same force m
 force-changed s t seat _ _ (submits session floor x found may) same force most least = omega (arith, most, force, least, ap total same)
 force-changed s t seat _ _ (collects session x end found ended) same force most least = omega (arith, most, force, least, ap total same)
 force-changed s t seat _ _ (finishes session x found runs) same force most least = omega (arith, most, force, least, ap total same)
+force-changed s t seat _ _ (closes session x found rests) same force most least = omega (arith, most, force, least, ap total same)
 
 pub force-found : (s : State) (at : ℕ) → (found_at s at).in_force ≡ s.in_force
 force-found s at = due-keeps (λ t. t.in_force ≡ s.in_force) (λ t w end among p. p) (moved_to s at) refl
@@ -54,6 +56,7 @@ force-like s t u (SetPool session pool) same defs h = omega (arith, same, h)
 force-like s t u (Submit session floor) same defs h = omega (arith, same, h)
 force-like s t u (Poll session) same defs h = omega (arith, same, h)
 force-like s t u (Finish session) same defs h = omega (arith, same, h)
+force-like s t u (Close session) same defs h = omega (arith, same, h)
 
 pub force-step : (s : State) (seat at : ℕ) (event : Event) → IsHealthy s → IsFormed event → RaisesForce s (step s seat at event).state event
 force-step s seat at event h formed =

@@ -19,13 +19,14 @@ use Rattle.rm_rules.specs.Step.{moved_to, has_due, found_at, attempted, step}
 use Rattle.rm_rules.specs.Replay.{IsFormed}
 use Rattle.rm_rules.specs.Sessions.{session_in, IsForeign, Settles, Stays, Runs, Ends, IsLeft, LeavesForeign}
 use Rattle.rm_rules.specs.Healthy.{AreInPhase, IsHealthy}
+use Rattle.rm_rules.proofs.Found.{find-without}
 use Rattle.rm_rules.proofs.Changed.{other-changed}
-use Rattle.rm_rules.proofs.Phases.{has_number, phased, choosing_pool, called-with_same, called-with_other, phase_of-found}
+use Rattle.rm_rules.proofs.Phases.{has_number, phased, choosing_pool, differ, called-with_same, called-with_other, phase_of-found}
 use Rattle.rm_rules.proofs.Queue.{IsAmong}
 use Rattle.rm_rules.proofs.Admitting.{session-waits, in_phase-admitted}
 use Rattle.rm_rules.proofs.Ending.{in_phase-ended}
 use Rattle.rm_rules.proofs.Settling.{entitled-among, due-keeps, settled-keeps}
-use Rattle.rm_rules.proofs.Changing.{IsTried, stays, changes, IsQuiet, refuses, repeats, tells, IsChange, defines, opens, chooses, submits, collects, finishes, session_of-is, tried-is}
+use Rattle.rm_rules.proofs.Changing.{IsTried, stays, changes, IsQuiet, refuses, repeats, tells, IsChange, defines, opens, chooses, submits, collects, finishes, closes, session_of-is, tried-is}
 use Rattle.rm_rules.proofs.Stepping.{unsettled-tried, outcome-turn}
 
 pub settles-then : (p q r : Phase) → Settles p q → Settles q r → Settles p r
@@ -166,7 +167,7 @@ left-changed s seat _ _ n x (chooses session pool z found may differs) other h =
   session = h.session;
   called =
       other-changed (has_number z.number) (has_number n) (choosing_pool pool) s.sessions
-      (λ y is. ap (λ k. eqb k n) (eqb-true y.number z.number is) ∙ other session z refl found) (λ y. refl)
+      (λ y is. differ y.number z.number n (other session z refl found) is) (λ y. refl)
       ∙ h.called;
   left = h.left;
 }
@@ -176,6 +177,11 @@ left-changed s seat _ _ n x (collects session z end found ended) other h =
     left-with n z.number phase.Idle x s.sessions h (λ same. absurd (false≢true (sym (other session z refl found) ∙ same)))
 left-changed s seat _ _ n x (finishes session z found runs) other h =
     left-with n z.number phase.Idle x s.sessions h (λ same. absurd (false≢true (sym (other session z refl found) ∙ same)))
+left-changed s seat _ _ n x (closes session z found rests) other h = record {
+  session = h.session;
+  called = find-without (has_number z.number) (has_number n) s.sessions (λ y is. differ y.number z.number n (other session z refl found) is) ∙ h.called;
+  left = h.left;
+}
 
 -- and its answer is another session's
 answer-turn : (n m : ℕ) (x : Session) (t : State) (b : Bool) → eqb m n ≡ false → IsLeftAt n x t.sessions → IsLeftAt n x (cond b (with_phase m phase.Idle t.sessions) t.sessions)
@@ -196,6 +202,7 @@ change-answered s t seat _ _ n x (chooses session pool z found may differs) othe
 change-answered s t seat _ _ n x (submits session floor z found may) other h = answer-turn n z.number x t (is_ended (phase_of t.sessions z.number)) (other session z refl found) h
 change-answered s t seat _ _ n x (collects session z end found ended) other h = h
 change-answered s t seat _ _ n x (finishes session z found runs) other h = h
+change-answered s t seat _ _ n x (closes session z found rests) other h = h
 
 -- what is tried leaves the session, and so does its settling and its answer
 tried-left : (s : State) (seat : ℕ) (event : Event) (c : Change) (n : ℕ) (x : Session) → IsTried s seat event c → AreInPhase c.state.sessions c.state.waiting c.state.running

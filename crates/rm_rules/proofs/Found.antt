@@ -1,10 +1,11 @@
 -- What is found in lists that are put together, of which something is taken, or of which one item alone passes.
-use Rattle.std.proofs.Common.{◌≡◌, ℕ, ◌≤◌, Bool, true, false, cond, List, [], ◌∷◌, ◌++◌, Some, None, ◌⊎◌, inl, inr, refl, sym, ap, ◌∙◌, subst, arith, count_by}
+use Rattle.std.proofs.Common.{◌≡◌, ℕ, ◌≤◌, Bool, true, false, cond, List, [], ◌∷◌, ◌++◌, Some, None, Option, ◌⊎◌, inl, inr, refl, sym, ap, ◌∙◌, subst, arith, count_by}
+use Rattle.std.specs.Option.{is_some}
 use Rattle.std.specs.List.{find}
 use Rattle.std.proofs.lemmas.Bool.{false≢true}
 use Rattle.std.proofs.lemmas.List.Sums.{sum_by-cons}
 use Rattle.rm_rules.specs.State.{without}
-use Rattle.rm_rules.proofs.Taken.{found_single}
+use Rattle.rm_rules.proofs.Taken.{found_passes, found_counted, found_single, sum_without}
 
 -- what is not found in front is found behind
 behind-turn : {A : Type 0} (test : A → Bool) (x y : A) (xs ys : List A) (b : Bool) → cond b (Some x) (find test xs) ≡ None → cond b (Some x) (find test (xs ++ ys)) ≡ Some y
@@ -39,6 +40,16 @@ pub found-push : {A : Type 0} (test : A → Bool) (y z : A) (xs : List A) → fi
 found-push test y z [] found = inr (one-turn y z (test z) found)
 found-push test y z (x ∷ xs) found = last-turn test x y z xs (test x) found (found-push test y z xs)
 
+-- where none is found, none is taken out
+unfound-turn : {A : Type 0} (test : A → Bool) (x : A) (xs : List A) (b : Bool) → cond b (Some x) (find test xs) ≡ None → (find test xs ≡ None → without test xs ≡ xs)
+    → cond b xs (x ∷ without test xs) ≡ x ∷ xs
+unfound-turn test x xs true absent rest = absurd (cc)
+unfound-turn test x xs false absent rest = ap (λ l. x ∷ l) (rest absent)
+
+pub without-unfound : {A : Type 0} (test : A → Bool) (xs : List A) → find test xs ≡ None → without test xs ≡ xs
+without-unfound test [] absent = refl
+without-unfound test (x ∷ xs) absent = unfound-turn test x xs (test x) absent (without-unfound test xs)
+
 -- what another test does not take is found as before
 kept-turn : {A : Type 0} (test other : A → Bool) (x y : A) (xs : List A) (b c : Bool) → other x ≡ b → test x ≡ c → cond c (Some x) (find test xs) ≡ Some y → other y ≡ false
     → (find test xs ≡ Some y → find test (without other xs) ≡ Some y) → find test (cond b xs (x ∷ without other xs)) ≡ Some y
@@ -50,6 +61,16 @@ kept-turn test other x y xs false false e f found apart rest = ap (λ b. cond b 
 pub found-kept : {A : Type 0} (test other : A → Bool) (y : A) (xs : List A) → find test xs ≡ Some y → other y ≡ false → find test (without other xs) ≡ Some y
 found-kept test other y [] found apart = let none : None ≡ Some y = found in absurd (cc)
 found-kept test other y (x ∷ xs) found apart = kept-turn test other x y xs (other x) (test x) refl refl found apart (λ more. found-kept test other y xs more apart)
+
+-- where no item passes both tests, what the one takes out changes nothing that the other finds
+apart-turn : {A : Type 0} (test other : A → Bool) (x : A) (xs : List A) (b : Bool) → (b ≡ true → other x ≡ false) → find other (without test xs) ≡ find other xs
+    → find other (cond b xs (x ∷ without test xs)) ≡ cond (other x) (Some x) (find other xs)
+apart-turn test other x xs true apart rest = sym (ap (λ b. cond b (Some x) (find other xs)) (apart refl))
+apart-turn test other x xs false apart rest = ap (λ o. cond (other x) (Some x) o) rest
+
+pub find-without : {A : Type 0} (test other : A → Bool) (xs : List A) → ((x : A) → test x ≡ true → other x ≡ false) → find other (without test xs) ≡ find other xs
+find-without test other [] apart = refl
+find-without test other (x ∷ xs) apart = apart-turn test other x xs (test x) (apart x) (find-without test other xs apart)
 
 -- where what is found stands
 split-turn : {A : Type 0} (test : A → Bool) (x y : A) (xs : List A) (b : Bool) → cond b (Some x) (find test xs) ≡ Some y
@@ -77,3 +98,18 @@ none-turn test x xs false e none rest = rest (omega (arith, none, sum_by-cons (�
 pub none-counted : {A : Type 0} (test : A → Bool) (xs : List A) → count_by test xs ≡ 0 → find test xs ≡ None
 none-counted test [] none = refl
 none-counted test (x ∷ xs) none = none-turn test x xs (test x) refl none (none-counted test xs)
+
+-- where one passes at most, none is found once it is taken out
+lone-turn : {A : Type 0} (test : A → Bool) (xs : List A) (o : Option A) → find test xs ≡ o → count_by test xs ≤ 1 → find test (without test xs) ≡ None
+lone-turn test xs None absent few = ap (find test) (without-unfound test xs absent) ∙ absent
+lone-turn test xs (Some y) found few =
+    let one : cond {A = ℕ} (test y) 1 0 ≡ 1 = ap {B = ℕ} (λ b. cond b 1 0) (found_passes test y xs found) in
+    none-counted test (without test xs) (omega (arith, few, one, sum_without (λ z. cond (test z) 1 0) test y xs found))
+
+pub none-left : {A : Type 0} (test : A → Bool) (xs : List A) → count_by test xs ≤ 1 → find test (without test xs) ≡ None
+none-left test xs few = lone-turn test xs (find test xs) refl few
+
+-- so where one passes or none, one is found or none
+pub is_some-find : {A : Type 0} (test : A → Bool) (xs : List A) (b : Bool) → count_by test xs ≡ cond b 1 0 → is_some (find test xs) ≡ b
+is_some-find test xs true one = let there = found_counted test xs (omega (arith, one)) in ap is_some there.1
+is_some-find test xs false none = ap is_some (none-counted test xs none)

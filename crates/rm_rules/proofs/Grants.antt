@@ -4,7 +4,7 @@ use Rattle.std.specs.Prelude.{◌≢◌, option_map, option_and_then}
 use Rattle.std.specs.List.{find}
 use Rattle.std.proofs.lemmas.Bool.{eqb-true, eq-eqb, false≢true}
 use Rattle.rm_base.specs.declared.event.Event.{Event}
-use Rattle.rm_base.specs.declared.event.Event.TheVariants.{Define, Open, SetPool, Submit, Poll, Finish}
+use Rattle.rm_base.specs.declared.event.Event.TheVariants.{Define, Open, SetPool, Submit, Poll, Finish, Close}
 use Rattle.rm_base.specs.declared.refusal.Refusal.{Refusal}
 use Rattle.rm_base.specs.declared.reply.Reply.{Reply}
 use Rattle.rm_base.specs.declared.reply.Reply.TheVariants as reply
@@ -13,12 +13,12 @@ use Rattle.rm_rules.specs.declared.state.Waiter.{Waiter}
 use Rattle.rm_rules.specs.declared.state.Runner.{Runner}
 use Rattle.rm_rules.specs.Definitions.{pool_row}
 use Rattle.rm_rules.specs.Ask.{cap}
-use Rattle.rm_rules.specs.State.{State, without, without_runner, session_pool, phase_of, is_running}
+use Rattle.rm_rules.specs.State.{State, without, without_waiter, without_runner, session_pool, phase_of, is_running}
 use Rattle.rm_rules.specs.Holdings.{holdings}
 use Rattle.rm_rules.specs.Accounting.{used}
 use Rattle.rm_rules.specs.Admission.{started, admitted, first_entitled}
 use Rattle.rm_rules.specs.Settle.{settled}
-use Rattle.rm_rules.specs.Change.{Change, runner_of, grant_of, new_waiter, defined, opened, submitted, collected, finished}
+use Rattle.rm_rules.specs.Change.{Change, runner_of, grant_of, new_waiter, defined, opened, submitted, collected, finished, closed}
 use Rattle.rm_rules.specs.Answers.{told, reply_of}
 use Rattle.rm_rules.specs.Step.{entered, moved_to, has_due, found_at, attempted, step}
 use Rattle.rm_rules.specs.Healthy.{AreNumbered, IsHealthy}
@@ -29,7 +29,7 @@ use Rattle.rm_rules.proofs.Queue.{IsAmong, further, found_among}
 use Rattle.rm_rules.proofs.SettledLaws.{none_without}
 use Rattle.rm_rules.proofs.Settling.{entitled-among, due-keeps, settled-keeps, rest-settled}
 use Rattle.rm_rules.proofs.Within.{within-settled}
-use Rattle.rm_rules.proofs.Changing.{IsTried, stays, changes, IsQuiet, refuses, repeats, tells, IsChange, defines, opens, chooses, submits, collects, finishes, choice_made, session_of-is, session_of-found, tried-is}
+use Rattle.rm_rules.proofs.Changing.{IsTried, stays, changes, IsQuiet, refuses, repeats, tells, IsChange, defines, opens, chooses, submits, collects, finishes, closes, choice_made, session_of-is, session_of-found, tried-is}
 use Rattle.rm_rules.proofs.Phases.{one_if-most, phase_of-found}
 use Rattle.rm_rules.proofs.Keeping.{runner_found}
 use Rattle.rm_rules.proofs.Answering.{beside-answered}
@@ -141,30 +141,36 @@ pub record Turned (s c : State) (event : Event) (freed : Option ℕ) : Type 0 wh
   pub none : (query : ℕ) → runner_called s.running query ≡ None → runner_called c.running query ≡ None
   pub waits : (w : Waiter) → IsAmong w c.waiting → IsAmong w s.waiting ⊎ WasSubmitted s event w
 
--- where no query ends and none is new
-turned-same : (s c : State) (event : Event) → c.running ≡ s.running → c.waiting ≡ s.waiting → Turned s c event None
-turned-same s c event running waiting = record {
+-- where the running queries stay as they are
+turned-waits : (s c : State) (event : Event) → c.running ≡ s.running → ((w : Waiter) → IsAmong w c.waiting → IsAmong w s.waiting ⊎ WasSubmitted s event w) → Turned s c event None
+turned-waits s c event running waits = record {
   kept = λ query r found none. ap (λ l. runner_called l query) running ∙ found;
   gone = λ query none. absurd (cc);
   waits_not = λ query none w among is. absurd (let e : None ≡ Some query = none in cc);
   none = λ query found. ap (λ l. runner_called l query) running ∙ found;
-  waits = λ w among. inl (subst (IsAmong w) waiting among);
+  waits = waits;
 }
 
+turned-same : (s c : State) (event : Event) → c.running ≡ s.running → c.waiting ≡ s.waiting → Turned s c event None
+turned-same s c event running waiting = turned-waits s c event running (λ w among. inl (subst (IsAmong w) waiting among))
+
+turned-closed : (s c : State) (event : Event) (n : ℕ) → c.running ≡ s.running → c.waiting ≡ without_waiter n s.waiting → Turned s c event None
+turned-closed s c event n running waiting =
+    turned-waits s c event running (λ w among. inl (among-without (λ x. eqb x.session n) w s.waiting (subst (IsAmong w) waiting among)))
+
 turned-submitted : (s c : State) (event : Event) (y : Waiter) → c.running ≡ s.running → c.waiting ≡ s.waiting ++ y ∷ [] → WasSubmitted s event y → Turned s c event None
-turned-submitted s c event y running waiting next = record {
-  kept = λ query r found none. ap (λ l. runner_called l query) running ∙ found;
-  gone = λ query none. absurd (cc);
-  waits_not = λ query none w among is. absurd (let e : None ≡ Some query = none in cc);
-  none = λ query found. ap (λ l. runner_called l query) running ∙ found;
-  waits = λ w among. turn w (among-push w y s.waiting (subst (IsAmong w) waiting among));
-} where
-  turn : (w : Waiter) → IsAmong w s.waiting ⊎ (w ≡ y) → IsAmong w s.waiting ⊎ WasSubmitted s event w
-  turn w (inl before) = inl before
-  turn w (inr new) = inr (subst (WasSubmitted s event) (sym new) next)
+turned-submitted s c event y running waiting next =
+    turned-waits s c event running (λ w among. turn w (among-push w y s.waiting (subst (IsAmong w) waiting among))) where
+      turn : (w : Waiter) → IsAmong w s.waiting ⊎ (w ≡ y) → IsAmong w s.waiting ⊎ WasSubmitted s event w
+      turn w (inl before) = inl before
+      turn w (inr new) = inr (subst (WasSubmitted s event) (sym new) next)
+
+-- what a session's running query holds
+pub grant_of-found : (running : List Runner) (n : ℕ) (r : Runner) → runner_of running n ≡ Some r → grant_of running n ≡ r.grant
+grant_of-found running n r found = ap (λ (o : Option Runner). elim o [ Some y ↦ y.grant | None ↦ 0 ]) found
 
 -- a running query is what its number finds
-runner-number : (s : State) (n : ℕ) (r : Runner) → runner_of s.running n ≡ Some r → AreNumbered s.last_query s.waiting s.running → runner_called s.running r.query ≡ Some r
+pub runner-number : (s : State) (n : ℕ) (r : Runner) → runner_of s.running n ≡ Some r → AreNumbered s.last_query s.waiting s.running → runner_called s.running r.query ≡ Some r
 runner-number s n r found numbered =
     let by_number = λ (x : Runner). eqb x.query r.query in
     let split = found-split (λ (x : Runner). eqb x.session n) r s.running found in
@@ -235,6 +241,7 @@ refused-rest s (SetPool session pool) r = refl
 refused-rest s (Submit session floor) r = refl
 refused-rest s (Poll session) r = refl
 refused-rest s (Finish session) r = refl
+refused-rest s (Close session) r = refl
 
 freed-refused : (s : State) (event : Event) (r : Refusal) → (let o : Option ℕ = None in freed_by s event (reply.Refused r) ≡ o)
 freed-refused s (Define statement) r = refl
@@ -243,6 +250,7 @@ freed-refused s (SetPool session pool) r = refl
 freed-refused s (Submit session floor) r = refl
 freed-refused s (Poll session) r = refl
 freed-refused s (Finish session) r = refl
+freed-refused s (Close session) r = refl
 
 frees-quiet : (s u : State) (seat : ℕ) (event : Event) (answer : Answer) → IsQuiet s seat event answer → Frees s event (reply_of u answer) s
 frees-quiet s u seat _ _ (refuses event r is) = frees-none s event (reply.Refused r) s (freed-refused s event r) (λ n grant is gives. absurd (cc)) (refused-rest s event r) (turned-same s s event refl refl)
@@ -270,7 +278,7 @@ frees-change s u seat _ _ (finishes session x found runs) h =
     let few : count_by (λ (y : Runner). eqb y.session n) s.running ≤ 1 = omega (arith, h.in_phase.runs n, one_if-most (is_running (phase_of s.sessions n))) in
     let number : n ≡ session = (session_of-is s seat session x found).number in
     let freed : query_of s session ≡ Some r.0.query = ap (λ k. query_of s k) (sym number) ∙ ap (option_map (λ (y : Runner). y.query)) r.1 in
-    let grant : grant_of s.running n ≡ r.0.grant = ap (λ (o : Option Runner). elim o [ Some y ↦ y.grant | None ↦ 0 ]) r.1 in
+    let grant : grant_of s.running n ≡ r.0.grant = grant_of-found s.running n r.0 r.1 in
     let turned = turned-finished s (finished s x).state (Finish session) n r.0 refl refl r.1 few h.numbered in
     record {
       turned = subst (Turned s (finished s x).state (Finish session)) (sym freed) turned;
@@ -280,6 +288,8 @@ frees-change s u seat _ _ (finishes session x found runs) h =
           let same : r.0.query ≡ query = let e : Some r.0.query ≡ Some query = sym freed ∙ is in cc in
           ap (λ k. grant_called s.running k) (sym same) ∙ ap (option_map (λ (y : Runner). y.grant)) (runner-number s n r.0 r.1 h.numbered) ∙ ap (λ g. Some g) (sym grant);
     }
+frees-change s u seat _ _ (closes session x found rests) h =
+    frees-none s (Close session) reply.Closed (closed s x).state refl (λ n grant is gives. absurd (cc)) refl (turned-closed s (closed s x).state (Close session) x.number refl refl)
 
 -- who runs since the change, or from before it
 behind-found : (c : State) (query : ℕ) (r : Runner) → (let n : Option Runner = None in runner_called c.running query ≡ n) → runner_called (settled c).running query ≡ Some r → Came c r
@@ -365,6 +375,7 @@ freed-same s t (Submit session floor) answer same = refl
 freed-same s t (Poll session) answer same = refl
 freed-same s t (Finish session) answer same =
     ap (λ (l : List Runner). option_and_then (λ grant. option_map (λ (r : Runner). r.query) (runner_of l session)) (released answer)) same
+freed-same s t (Close session) answer same = refl
 
 rest-same : (s t : State) (event : Event) (answer : Reply) → t.running ≡ s.running → still_running t event answer ≡ still_running s event answer
 rest-same s t (Define statement) answer same = same
@@ -374,6 +385,7 @@ rest-same s t (Submit session floor) answer same = same
 rest-same s t (Poll session) answer same = same
 rest-same s t (Finish session) answer same =
     ap (λ (l : List Runner). elim (released answer) [ Some grant ↦ without_runner session l | None ↦ l ]) same
+rest-same s t (Close session) answer same = same
 
 -- deadlines leave the running queries as they were, and none waits that did not
 pub record WaitsLess (s t : State) : Type 0 where

@@ -27,14 +27,16 @@ use Rattle.rm_rules.specs.Replay.{IsFormed}
 use Rattle.rm_rules.specs.Sound.{has_pool}
 use Rattle.rm_rules.specs.Owed.{owed, entries_moving, entries_waiting, entries_running}
 use Rattle.rm_rules.specs.Healthy.{AreInPhase, AreThere, AreOpened, AreNumbered, IsHealthyWith, IsUnsettledWith, counted_for, defining_for, one_if}
-use Rattle.rm_rules.proofs.Taken.{and_left, and_right, all_found, all_push, found_counted}
+use Rattle.rm_rules.proofs.Taken.{and_left, and_right, all_found, all_push, all_wider, found_counted}
 use Rattle.rm_rules.proofs.Changed.{turns-stay, turns-leave, turns-come}
 use Rattle.rm_rules.proofs.Known.{session_pool-known, chosen-choice}
-use Rattle.rm_rules.proofs.AcceptanceLaws.{not_below, all_wider, accepted-sound, accepted-counted}
+use Rattle.rm_rules.proofs.Refused.{not_below}
+use Rattle.rm_rules.proofs.AcceptanceLaws.{accepted-sound, accepted-counted}
 use Rattle.rm_rules.proofs.Phases.{phase_of-found, count-with, phase_of-choice, count-choice, length-choice, opened-choice, opened-with, phase_of-push, count-push, there_if_live, live-counts, live-most, length-with}
 use Rattle.rm_rules.proofs.Moving.{Goes, in_phase-goes, there-goes, numbered-goes, owed-goes, room-owed}
 use Rattle.rm_rules.proofs.Covering.{held-finished, held-defined}
-use Rattle.rm_rules.proofs.Changing.{IsChange, defines, opens, chooses, submits, collects, finishes, MayOpen, MayChoose, MaySubmit, choice_made, session_of-found}
+use Rattle.rm_rules.proofs.Closing.{unsettled-closed}
+use Rattle.rm_rules.proofs.Changing.{IsChange, defines, opens, chooses, submits, collects, finishes, closes, MayOpen, MayChoose, MaySubmit, choice_made, session_of-found}
 
 -- a sum of what is at most so much each
 sum-within : {A : Type 0} (f : A → ℕ) (most : ℕ) (xs : List A) → ((x : A) → f x ≤ most) → sum_by f xs ≤ most * length xs
@@ -402,3 +404,4 @@ unsettled-changed s seat _ _ formed h (chooses session pool x found may other) =
 unsettled-changed s seat _ _ formed h (submits session floor x found may) = unsettled-submitted s x floor h (session_of-found s seat session x found) may
 unsettled-changed s seat _ _ formed h (collects session x end found ended) = unsettled-collected s x end h (session_of-found s seat session x found) ended
 unsettled-changed s seat _ _ formed h (finishes session x found runs) = unsettled-finished s x h (session_of-found s seat session x found) runs
+unsettled-changed s seat _ _ formed h (closes session x found rests) = unsettled-closed s x h (session_of-found s seat session x found) rests

@@ -79,13 +79,18 @@ quiet-step s seat at event =
     (λ still e. refl)
 
 -- histories, one after the other
-replay-append : (s : State) (xs ys : List Entry) → replay s (xs ++ ys) ≡ replay (replay s xs) ys
+pub replay-append : (s : State) (xs ys : List Entry) → replay s (xs ++ ys) ≡ replay (replay s xs) ys
 replay-append s [] ys = refl
 replay-append s (e ∷ es) ys = replay-append (step s e.seat e.at e.event).state es ys
 
 legal-append : (s : State) (xs ys : List Entry) → IsLegal s xs → IsLegal (replay s xs) ys → IsLegal s (xs ++ ys)
 legal-append s [] ys h k = k
 legal-append s (e ∷ es) ys h k = (h.0, h.1, legal-append (step s e.seat e.at e.event).state es ys h.2 k)
+
+-- both parts of a legal history are legal
+pub legal-parts : (s : State) (xs ys : List Entry) → IsLegal s (xs ++ ys) → IsLegal s xs × IsLegal (replay s xs) ys
+legal-parts s [] ys h = (tt, h)
+legal-parts s (e ∷ es) ys h = let rest = legal-parts (step s e.seat e.at e.event).state es ys h.2 in ((h.0, h.1, rest.0), rest.1)
 
 -- an event acts the same at the moment that its entry has
 abbrev at_moment : State → ℕ → ℕ → Event → Outcome

@@ -20,20 +20,20 @@ use Rattle.rm_rules.specs.State.{State, session_called, session_pool, with_phase
 use Rattle.rm_rules.specs.Repeated.{repeated}
 use Rattle.rm_rules.specs.Deadlines.{first_due, timed_out, without_due}
 use Rattle.rm_rules.specs.Settle.{settled}
-use Rattle.rm_rules.specs.Change.{Change, new_waiter, defined, opened, has_chosen, submitted, collected, finished}
+use Rattle.rm_rules.specs.Change.{Change, new_waiter, defined, opened, has_chosen, submitted, collected, finished, closed}
 use Rattle.rm_rules.specs.Answers.{answered}
 use Rattle.rm_rules.specs.Step.{entered, moved_to, has_due, found_at, attempted, step, IsSameButClock}
 use Rattle.rm_rules.specs.Replay.{IsFormed}
 use Rattle.rm_rules.specs.Sessions.{Settles, Stays, Runs, Ends}
 use Rattle.rm_rules.specs.Healthy.{AreInPhase, AreNumbered, IsHealthy}
-use Rattle.rm_rules.proofs.Taken.{sum_without, count_without, counted_among}
+use Rattle.rm_rules.proofs.Taken.{sum_without, length_without, count_without, counted_among}
 use Rattle.rm_rules.proofs.AcceptanceLaws.{accepted-counted}
 use Rattle.rm_rules.proofs.Changed.{found-changed}
-use Rattle.rm_rules.proofs.Phases.{has_number, phased, choosing_pool, called-with_same}
+use Rattle.rm_rules.proofs.Phases.{has_number, phased, choosing_pool, called-with_same, length-with}
 use Rattle.rm_rules.proofs.Queue.{IsAmong}
 use Rattle.rm_rules.proofs.Admitting.{waiter_found}
 use Rattle.rm_rules.proofs.Settling.{repeated-keeps, due-among, settled-keeps, rest-settled, rest-due}
-use Rattle.rm_rules.proofs.Changing.{IsTried, stays, changes, IsChange, defines, opens, chooses, submits, collects, finishes, choice_made, session_of-found, tried-is, rest-changed}
+use Rattle.rm_rules.proofs.Changing.{IsTried, stays, changes, IsChange, defines, opens, chooses, submits, collects, finishes, closes, choice_made, session_of-found, tried-is, rest-changed}
 use Rattle.rm_rules.proofs.Keeping.{unsettled-changed, running-just}
 use Rattle.rm_rules.proofs.Answering.{beside-answered}
 use Rattle.rm_rules.proofs.Stepping.{moved-facts, none-found, outcome-turn}
@@ -48,6 +48,12 @@ settles-idle : (p q : Phase) → Settles p q → is_idle p ≡ true → is_idle 
 settles-idle p _ (Stays _) idle = idle
 settles-idle _ _ Runs idle = absurd (false≢true idle)
 settles-idle _ _ (Ends end) idle = absurd (false≢true idle)
+
+-- settling closes and opens no session
+length-settled : (s : State) → length (settled s).sessions ≡ length s.sessions
+length-settled s =
+    settled-keeps (λ t. length t.sessions ≡ length s.sessions) (λ t w end among p. length-with w.session (phase.Ended end) t.sessions ∙ p) (λ t p. p)
+    (λ t w e p. length-with w.session phase.Running t.sessions ∙ p) s refl
 
 -- a session that has another phase or another choice then
 session-differs : (s t : State) (n clock : ℕ) (x y : Session) → session_called s.sessions n ≡ Some x → session_called t.sessions n ≡ Some y → t ≡ at_clock clock s → y ≡ x
@@ -96,9 +102,16 @@ loud-change s seat clock _ _ formed (collects session x end found ended) in_phas
 loud-change s seat clock _ _ formed (finishes session x found runs) in_phase same =
     let there = session_of-found s seat session x found in
     idle-differs s (finished s x).state x.number clock x (phased phase.Idle x) in_phase there (running-just x.phase runs).idle (idle-then s x there) refl same
+loud-change s seat clock _ _ formed (closes session x found rests) in_phase same =
+    omega (
+      arith,
+      ap (λ (u : State). length u.sessions) same,
+      length-settled (closed s x).state,
+      length_without (has_number x.number) x s.sessions (session_of-found s seat session x found),
+    )
 
 -- a number that was given is not the next one, and a query that waits has one that was given
-next-differs : (last n : ℕ) → n ≤ last → eqb (last + 1) n ≡ false
+pub next-differs : (last n : ℕ) → n ≤ last → eqb (last + 1) n ≡ false
 next-differs last n given = grind (arith, nat_tests)
 
 given-waits : (s : State) (n : ℕ) → AreNumbered s.last_query s.waiting s.running → 1 ≤ count_by (λ (w : Waiter). eqb w.query n) s.waiting → n ≤ s.last_query
@@ -151,6 +164,7 @@ gone-changed s seat _ _ n (submits session floor x found may) given none =
     omega (arith, none, sum_by_push (λ (z : Waiter). cond (eqb z.query n) 1 0) s.waiting w, ap {B = ℕ} (λ b. cond b 1 0) other)
 gone-changed s seat _ _ n (collects session x end found ended) given none = none
 gone-changed s seat _ _ n (finishes session x found runs) given none = none
+gone-changed s seat _ _ n (closes session x found rests) given none = omega (arith, none, count_without (λ (w : Waiter). eqb w.query n) (λ w. eqb w.session x.number) s.waiting)
 
 gone-tried : (s : State) (seat : ℕ) (event : Event) (c : Change) (n : ℕ) → IsTried s seat event c → n ≤ s.last_query → waiting_count n s ≡ 0 → waiting_count n c.state ≡ 0
 gone-tried s seat event _ n (stays answer still) given none = none

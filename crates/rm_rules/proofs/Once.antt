@@ -1,5 +1,5 @@
 -- What passes a test in a list in which one at most does.
-use Rattle.std.proofs.Common.{◌≡◌, ◌≤◌, ◌<◌, ℕ, ◌+◌, suc, Bool, true, false, nat_eq, cond, not, ltb, Some, None, List, [], ◌∷◌, ◌++◌, length, map, take, take_while, find, count_by, position, refl, ap, sym, ◌∙◌, arith, length-append}
+use Rattle.std.proofs.Common.{◌≡◌, ◌≤◌, ◌<◌, ℕ, ◌+◌, suc, Bool, true, false, nat_eq, cond, not, ltb, Some, None, List, [], ◌∷◌, ◌++◌, length, map, take_while, find, count_by, position, refl, ap, sym, ◌∙◌, arith, length-append}
 use Rattle.std.specs.List.{position_or_len}
 use Rattle.std.proofs.lemmas.Bool.Decides.{nat_tests}
 use Rattle.std.proofs.lemmas.List.{take_at}

@@ -8,8 +8,10 @@ use Rattle.rm_base.specs.declared.name.Name.{Name}
 use Rattle.rm_rules.specs.declared.state.Phase.{Phase}
 use Rattle.rm_rules.specs.declared.state.Phase.TheVariants as phase
 use Rattle.rm_rules.specs.declared.state.Session.{Session}
-use Rattle.rm_rules.specs.State.{session_called, phase_of, with_phase, with_choice, is_idle, is_active, is_ended, is_waiting, is_running, live_queries, active_queries}
+use Rattle.rm_rules.specs.State.{session_called, phase_of, with_phase, with_choice, without_session, is_idle, is_active, is_ended, is_waiting, is_running, live_queries, active_queries}
 use Rattle.rm_rules.specs.Healthy.{AreOpened, one_if}
+use Rattle.rm_rules.proofs.Taken.{sum_without, length_without, count_without, all_without}
+use Rattle.rm_rules.proofs.Found.{find-without, none-left}
 use Rattle.rm_rules.proofs.Changed.{sum-changed, sum-kept, length-changed, all-changed, found-changed, other-changed}
 
 -- the session of this number, and that session in another phase or with another choice
@@ -27,7 +29,7 @@ one_if-most true = omega arith
 one_if-most false = omega arith
 
 -- numbers that are told apart
-differ : (k n m : ℕ) → eqb n m ≡ false → eqb k n ≡ true → eqb k m ≡ false
+pub differ : (k n m : ℕ) → eqb n m ≡ false → eqb k n ≡ true → eqb k m ≡ false
 differ k n m ne e = ap (λ z. eqb z m) (eqb-true k n e) ∙ ne
 
 -- the session is found in its other phase, and every other one as it was
@@ -122,6 +124,31 @@ phase_of-push m xs y idle = pushed-turn m xs y idle
 pub count-push : (test : Phase → Bool) (xs : List Session) (y : Session) → test y.phase ≡ false → count_by (λ z. test z.phase) (xs ++ y ∷ []) ≡ count_by (λ z. test z.phase) xs
 count-push test xs y fails =
     omega (arith, sum_by_push (λ (z : Session). cond (test z.phase) 1 0) xs y, ap {B = ℕ} (λ b. cond b 1 0) fails)
+
+-- a session that is idle may go: no phase changes, and no count of those that are not idle
+dropped-turn : (n m : ℕ) (x : Session) (xs : List Session) (b : Bool) → eqb n m ≡ b → session_called xs n ≡ Some x → x.phase ≡ phase.Idle → count_by (has_number n) xs ≤ 1
+    → phase_of (without_session n xs) m ≡ phase_of xs m
+dropped-turn n m x xs true e found idle once =
+    subst (λ k. phase_of (without_session n xs) k ≡ phase_of xs k) (eqb-true n m e)
+    (ap phase_in (none-left (has_number n) xs once) ∙ sym (phase_of-found n xs x found ∙ idle))
+dropped-turn n m x xs false e found idle once = ap phase_in (find-without (has_number n) (has_number m) xs (λ y is. differ y.number n m e is))
+
+pub phase_of-drop : (n m : ℕ) (x : Session) (xs : List Session) → session_called xs n ≡ Some x → x.phase ≡ phase.Idle → count_by (has_number n) xs ≤ 1
+    → phase_of (without_session n xs) m ≡ phase_of xs m
+phase_of-drop n m x xs found idle once = dropped-turn n m x xs (eqb n m) refl found idle once
+
+pub count-drop : (test : Phase → Bool) (n : ℕ) (x : Session) (xs : List Session) → session_called xs n ≡ Some x → test x.phase ≡ false
+    → count_by (λ z. test z.phase) (without_session n xs) ≡ count_by (λ z. test z.phase) xs
+count-drop test n x xs found fails =
+    omega (arith, sum_without (λ (z : Session). cond (test z.phase) 1 0) (has_number n) x xs found, ap {B = ℕ} (λ b. cond b 1 0) fails)
+
+-- the others keep their numbers
+pub opened-drop : (last n : ℕ) (x : Session) (xs : List Session) → session_called xs n ≡ Some x → AreOpened last xs → AreOpened last (without_session n xs)
+opened-drop last n x xs found h = record {
+  once = λ m. omega (arith, h.once m, count_without (has_number m) (has_number n) xs);
+  given = all_without (λ z. leb z.number last) (has_number n) xs h.given;
+  few = omega (arith, h.few, length_without (has_number n) x xs found);
+}
 
 -- a session that has a query is there
 live-turn : (o : Option Session) → is_idle (phase_in o) ≡ false → is_some o ≡ true

@@ -24,7 +24,7 @@ use Rattle.rm_rules.specs.Healthy.{AreInPhase, IsHealthy, one_if}
 use Rattle.rm_rules.proofs.Taken.{found_counted, or_left_false, or_right_false}
 use Rattle.rm_rules.proofs.Phases.{phased, called-with_same, phase_of-found}
 use Rattle.rm_rules.proofs.Settling.{rest-settled, rest-due}
-use Rattle.rm_rules.proofs.Changing.{IsTried, stays, changes, IsQuiet, refuses, repeats, tells, IsChange, defines, opens, chooses, submits, collects, finishes, session_of-found, tried-is}
+use Rattle.rm_rules.proofs.Changing.{IsTried, stays, changes, IsQuiet, refuses, repeats, tells, IsChange, defines, opens, chooses, submits, collects, finishes, closes, session_of-found, tried-is}
 use Rattle.rm_rules.proofs.Foreign.{settles-live, left-self, left-settled}
 use Rattle.rm_rules.proofs.Stepping.{or-false, found-facts, unsettled-tried, outcome-turn}
 
@@ -97,6 +97,7 @@ refused-change s u seat _ r _ (submits session floor x found may) told_live e =
     told_live (phased phase.Waiting x) called refl r e
 refused-change s u seat _ r _ (collects session x end found ended) told_live e = cc
 refused-change s u seat _ r _ (finishes session x found runs) told_live e = cc
+refused-change s u seat _ r _ (closes session x found rests) told_live e = cc
 
 refused-still : (s : State) (seat : ℕ) (event : Event) (r : Refusal) (c : Change) → IsTried s seat event c → AreInPhase s.sessions s.waiting s.running → c.changed ≡ false
     → reply_of c.state c.answer ≡ reply.Refused r → IsRefused s seat event r c

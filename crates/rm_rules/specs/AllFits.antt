@@ -14,6 +14,7 @@ use Rattle.rm_rules.specs.Grouping.{group_keys, grouped, first_bad}
 use Rattle.rm_rules.specs.Meaning.{shown}
 use Rattle.rm_rules.specs.Stages.{width_of, side_of, stage_output}
 
+-- a quarter of a grant, rounded down
 abbrev pub quarter : ℕ → ℕ
 quarter grant = grant / GRANT_PARTS
 

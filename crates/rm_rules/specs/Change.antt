@@ -1,9 +1,9 @@
 -- What each event is refused with, and what it changes.
-use Rattle.std.specs.Prelude.{ℕ, true, false, ◌+◌, ◌*◌, Bool, ◌==◌, nat_le, nat_lt, not, List, [], ◌∷◌, ◌++◌, Option, Some, None, Result, Ok, Err, length, find, is_some, if◌then◌else◌}
+use Rattle.std.specs.Prelude.{ℕ, true, false, ◌+◌, ◌*◌, Bool, ◌==◌, nat_le, nat_lt, not, List, [], ◌∷◌, ◌++◌, Option, Some, None, Result, Ok, Err, length, find, if◌then◌else◌}
 use Rattle.rm_base.specs.declared.limits.TheConstants.{SESSIONS_MOST, ENTRIES_A_QUERY, ENTRIES_A_SESSION}
 use Rattle.rm_base.specs.declared.definitions.Definitions.{Definitions}
 use Rattle.rm_base.specs.declared.event.Event.{Event}
-use Rattle.rm_base.specs.declared.event.Event.TheVariants.{Define, Open, SetPool, Submit, Poll, Finish}
+use Rattle.rm_base.specs.declared.event.Event.TheVariants.{Define, Open, SetPool, Submit, Poll, Finish, Close}
 use Rattle.rm_base.specs.declared.name.Name.{Name}
 use Rattle.rm_base.specs.declared.reply.End.{End}
 use Rattle.rm_base.specs.declared.statement.Statement.{Statement}
@@ -18,11 +18,11 @@ use Rattle.rm_rules.specs.declared.state.Phase.TheVariants as phase
 use Rattle.rm_rules.specs.declared.state.Session.{Session}
 use Rattle.rm_rules.specs.declared.state.Waiter.{Waiter}
 use Rattle.rm_rules.specs.declared.state.Runner.{Runner}
-use Rattle.rm_rules.specs.Definitions.{pool_row, user_called, usage}
-use Rattle.rm_rules.specs.Refusals.{refused_if, first_refusal, unless_refused}
-use Rattle.rm_rules.specs.Acceptance.{accepted, pool_missing}
+use Rattle.rm_rules.specs.Definitions.{pool_row, usage}
+use Rattle.rm_rules.specs.Refusals.{refused_if, first_refusal, unless_refused, pool_missing, user_missing}
+use Rattle.rm_rules.specs.Acceptance.{accepted}
 use Rattle.rm_rules.specs.Ask.{is_too_large, too_large}
-use Rattle.rm_rules.specs.State.{State, none_ended, with_choice, session_of, session_pool, with_phase, without_runner, is_idle, is_running, live_queries, counted_entries}
+use Rattle.rm_rules.specs.State.{State, none_ended, with_choice, session_of, session_pool, with_phase, without_session, without_waiter, without_runner, is_idle, is_running, live_queries, counted_entries}
 
 -- what an accepted event does: the state that it makes, its answer, and whether it changes anything
 pub record Change : Type 0 where
@@ -42,10 +42,6 @@ changing s answer = record { state = s; answer = answer; changed = true }
 abbrev pub with_session : State → ℕ → ℕ → (Session → Result Change Refusal) → Result Change Refusal
 with_session s seat number act = elim (session_of s seat number) [ Some x ↦ act x | None ↦ Err refusal.NoSuchSession ]
 
--- 8: there is no such user
-abbrev pub user_missing : Definitions → Name → Option Refusal
-user_missing d user = refused_if (not (is_some (user_called d.users user))) (refusal.NoSuchUser user)
-
 -- 19: the query is too large for the pool
 abbrev pub size_refusal : Definitions → Name → Name → ℕ → Option Refusal
 size_refusal d pool user floor = refused_if (is_too_large d (pool_row d pool) user floor) (too_large d (pool_row d pool) user floor)
@@ -53,6 +49,10 @@ size_refusal d pool user floor = refused_if (is_too_large d (pool_row d pool) us
 -- 21: the session has a live query
 abbrev pub session_busy : Session → Option Refusal
 session_busy x = refused_if (not (is_idle x.phase)) refusal.SessionBusy
+
+-- 21 for Close: a query of the session runs
+abbrev pub session_running : Session → Option Refusal
+session_running x = refused_if (is_running x.phase) refusal.SessionBusy
 
 -- 22: the session has no live query, or none that runs
 abbrev pub not_live : Session → Option Refusal
@@ -213,6 +213,17 @@ finished s x = changing (record s {
 abbrev pub finishing : State → Session → Result Change Refusal
 finishing s x = unless_refused (not_running x) (finished s x)
 
+-- the session is gone: a query of it that waited leaves the queue and is counted nowhere, an end is forgotten
+abbrev pub closed : State → Session → Change
+closed s x = changing (record s {
+  sessions = without_session x.number s.sessions;
+  waiting = without_waiter x.number s.waiting;
+}) (Says reply.Closed)
+
+-- Close
+abbrev pub closing : State → Session → Result Change Refusal
+closing s x = unless_refused (session_running x) (closed s x)
+
 -- what an event of this seat does, or why it is refused
 abbrev pub change : State → ℕ → Event → Result Change Refusal
 change s seat (Define statement) = defining s statement
@@ -221,6 +232,7 @@ change s seat (SetPool session pool) = with_session s seat session (choosing s p
 change s seat (Submit session floor) = with_session s seat session (submitting s floor)
 change s seat (Poll session) = with_session s seat session (polling s)
 change s seat (Finish session) = with_session s seat session (finishing s)
+change s seat (Close session) = with_session s seat session (closing s)
 
 -- an event as it is tried: one that is refused changes nothing
 abbrev pub tried : State → Result Change Refusal → Change

@@ -3,7 +3,7 @@ use Rattle.std.specs.Prelude.{◌≡◌, ◌≢◌, ◌⊎◌, ℕ, ◌+◌, ◌
 use Rattle.rm_base.specs.declared.definitions.Definitions.{Definitions}
 use Rattle.rm_base.specs.declared.entry.Entry.{Entry}
 use Rattle.rm_base.specs.declared.event.Event.{Event}
-use Rattle.rm_base.specs.declared.event.Event.TheVariants.{Define, Open, SetPool, Submit, Poll, Finish}
+use Rattle.rm_base.specs.declared.event.Event.TheVariants.{Define, Open, SetPool, Submit, Poll, Finish, Close}
 use Rattle.rm_base.specs.declared.reply.Reply.{Reply}
 use Rattle.rm_base.specs.declared.reply.Reply.TheVariants as reply
 use Rattle.rm_rules.specs.declared.state.Session.{Session}
@@ -27,6 +27,7 @@ RaisesForce old new (SetPool session pool) = new.in_force ≤ old.in_force
 RaisesForce old new (Submit session floor) = new.in_force ≤ old.in_force
 RaisesForce old new (Poll session) = new.in_force ≤ old.in_force
 RaisesForce old new (Finish session) = new.in_force ≤ old.in_force
+RaisesForce old new (Close session) = new.in_force ≤ old.in_force
 
 -- the running and the waiting query of this number
 abbrev pub runner_called : List Runner → ℕ → Option Runner
@@ -69,6 +70,7 @@ freed_by s (SetPool session pool) answer = None
 freed_by s (Submit session floor) answer = None
 freed_by s (Poll session) answer = None
 freed_by s (Finish session) answer = option_and_then (λ grant. query_of s session) (released answer)
+freed_by s (Close session) answer = None
 
 -- the running queries that an event with this reply leaves, in their order
 abbrev pub still_running : State → Event → Reply → List Runner
@@ -78,6 +80,19 @@ still_running s (SetPool session pool) answer = s.running
 still_running s (Submit session floor) answer = s.running
 still_running s (Poll session) answer = s.running
 still_running s (Finish session) answer = elim (released answer) [ Some grant ↦ without_runner session s.running | None ↦ s.running ]
+still_running s (Close session) answer = s.running
+
+-- what a running query is to the one who submitted it: its number and its grant, which stay while it runs
+pub record Run : Type 0 where
+  pub query : ℕ
+  pub grant : ℕ
+
+abbrev pub run_by : Runner → Run
+run_by r = record { query = r.query; grant = r.grant }
+
+-- the running query of the session of this number, where this seat has opened it
+abbrev pub run_of : State → ℕ → ℕ → Option Run
+run_of s seat session = option_and_then (λ _. option_map run_by (runner_of s.running session)) (session_of s seat session)
 
 -- this event submitted the query
 abbrev pub WasSubmitted : State → Event → Waiter → Type 0

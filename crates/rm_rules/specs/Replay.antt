@@ -2,7 +2,7 @@
 use Rattle.std.specs.Prelude.{◌≡◌, ℕ, Bool, true, false, ◌==◌, List, [], ◌∷◌, filter}
 use Rattle.rm_base.specs.declared.entry.Entry.{Entry}
 use Rattle.rm_base.specs.declared.event.Event.{Event}
-use Rattle.rm_base.specs.declared.event.Event.TheVariants.{Define, Open, SetPool, Submit, Poll, Finish}
+use Rattle.rm_base.specs.declared.event.Event.TheVariants.{Define, Open, SetPool, Submit, Poll, Finish, Close}
 use Rattle.rm_base.specs.WellFormed.{IsWellFormed}
 use Rattle.rm_rules.specs.State.{State}
 use Rattle.rm_rules.specs.Acceptance.{is_judged}
@@ -21,6 +21,7 @@ IsFormed (SetPool session pool) = Unit {0}
 IsFormed (Submit session floor) = Unit {0}
 IsFormed (Poll session) = Unit {0}
 IsFormed (Finish session) = Unit {0}
+IsFormed (Close session) = Unit {0}
 
 -- each entry is just the one that its event makes at its place
 abbrev pub IsLegal : State → List Entry → Type 0
@@ -40,6 +41,7 @@ is_define (SetPool session pool) = false
 is_define (Submit session floor) = false
 is_define (Poll session) = false
 is_define (Finish session) = false
+is_define (Close session) = false
 
 -- each statement comes from the first seat
 abbrev pub FromFirst : List Entry → Type 0

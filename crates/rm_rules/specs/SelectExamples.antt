@@ -4,6 +4,7 @@ use Rattle.rm_base.specs.declared.catalog.ColumnKind.TheVariants as kind
 use Rattle.rm_base.specs.declared.catalog.CatalogColumn.{CatalogColumn}
 use Rattle.rm_base.specs.declared.select.Item.{Item}
 use Rattle.rm_base.specs.declared.select.Op.{Op}
+use Rattle.rm_base.specs.declared.select.Op.TheVariants.{Equal, AtMost, Greater}
 use Rattle.rm_base.specs.declared.select.Operand.TheVariants as operand
 use Rattle.rm_base.specs.declared.select.Select.{Select}
 use Rattle.rm_base.specs.declared.select.Test.{Test}
@@ -68,3 +69,7 @@ columns_test a op b = record { left = operand.Column a; op = op; right = operand
 
 abbrev pub value_test : ℕ → Op → Value → Test
 value_test a op value = record { left = operand.Column a; op = op; right = operand.Fixed value }
+
+-- one comparison on the first table, one on the second, and one that joins them
+abbrev pub side_tests : List Test
+side_tests = value_test 1 AtMost (int 10) ∷ value_test 3 Greater (int 5) ∷ columns_test 0 Equal 2 ∷ []

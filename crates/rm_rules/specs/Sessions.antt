@@ -1,7 +1,7 @@
 -- What an event leaves of the sessions of others.
 use Rattle.std.specs.Prelude.{◌≡◌, ◌≢◌, ◌⊎◌, ℕ, Option, Some, None}
 use Rattle.rm_base.specs.declared.event.Event.{Event}
-use Rattle.rm_base.specs.declared.event.Event.TheVariants.{Define, Open, SetPool, Submit, Poll, Finish}
+use Rattle.rm_base.specs.declared.event.Event.TheVariants.{Define, Open, SetPool, Submit, Poll, Finish, Close}
 use Rattle.rm_base.specs.declared.reply.End.{End}
 use Rattle.rm_rules.specs.declared.state.Phase.{Phase}
 use Rattle.rm_rules.specs.declared.state.Phase.TheVariants as phase
@@ -16,6 +16,7 @@ session_in (SetPool session pool) = Some session
 session_in (Submit session floor) = Some session
 session_in (Poll session) = Some session
 session_in (Finish session) = Some session
+session_in (Close session) = Some session
 
 -- an event of this seat is for another session than this one, or this one is not the seat's
 abbrev pub IsForeign : ℕ → Event → Session → Type 0

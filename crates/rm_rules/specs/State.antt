@@ -105,6 +105,10 @@ abbrev pub without : {A : Type 0} → (A → Bool) → List A → List A
 without test [] = []
 without test (x ∷ xs) = if test x then xs else x ∷ without test xs
 
+-- the sessions without the one of this number
+abbrev pub without_session : ℕ → List Session → List Session
+without_session number sessions = without (λ x. x.number == number) sessions
+
 -- the waiting and the running queries without that of this session, which has one at most
 abbrev pub without_waiter : ℕ → List Waiter → List Waiter
 without_waiter session waiting = without (λ w. w.session == session) waiting

@@ -1,13 +1,14 @@
 //! The laws over all histories. Each is the contract of a function that does nothing.
 
-ghost use Rattle.std.specs.Prelude.{◌≡◌, ◌↔◌, ℕ, ◌+◌, ◌≤◌, ◌++◌, true, false, List, [], Some, None, Err, length};
+ghost use Rattle.std.specs.Prelude.{◌≡◌, ◌≢◌, ◌↔◌, ℕ, ◌+◌, ◌≤◌, ◌++◌, true, false, List, [], Some, None, Err, length};
 ghost use Rattle.rm_base.specs.declared.definitions.Definitions.{Definitions};
 ghost use Rattle.rm_base.specs.declared.entry.Entry.{Entry};
 ghost use Rattle.rm_base.specs.declared.event.Event.{Event};
-ghost use Rattle.rm_base.specs.declared.event.Event.TheVariants.{Submit};
+ghost use Rattle.rm_base.specs.declared.event.Event.TheVariants.{Submit, Finish};
 ghost use Rattle.rm_base.specs.declared.limits.TheConstants.{CHANGES_MOST, ENTRIES_BEYOND};
+ghost use Rattle.rm_base.specs.declared.name.Name.{Name};
 ghost use Rattle.rm_base.specs.declared.refusal.Refusal.{Refusal};
-ghost use Rattle.rm_base.specs.declared.reply.Reply.TheVariants.{Refused};
+ghost use Rattle.rm_base.specs.declared.reply.Reply.TheVariants.{Admitted, Released, Refused};
 ghost use Rattle.rm_rules.specs.declared.state.Waiter.{Waiter};
 ghost use Rattle.rm_rules.specs.Definitions.{pool_row};
 ghost use Rattle.rm_rules.specs.Ask.{cap};
@@ -19,12 +20,12 @@ ghost use Rattle.rm_rules.specs.Settle.{settled};
 ghost use Rattle.rm_rules.specs.Settled.{IsSettled};
 ghost use Rattle.rm_rules.specs.Change.{change};
 ghost use Rattle.rm_rules.specs.Step.{found_at, step, made, left_refused, IsSameButClock};
-ghost use Rattle.rm_rules.specs.Replay.{replay, IsFormed, IsLegal};
+ghost use Rattle.rm_rules.specs.Replay.{replay, IsFormed, IsLegal, own_entries};
 ghost use Rattle.rm_rules.specs.Sound.{IsSound};
 ghost use Rattle.rm_rules.specs.Healthy.{AreSized, AreThere, AreHeld, IsHealthy};
 ghost use Rattle.rm_rules.specs.Conserved.{ConservedAfterEach};
-ghost use Rattle.rm_rules.specs.Grants.{RaisesForce, KeepsGrants, BytesAreKept, IsAdmittedAtOnce};
-ghost use Rattle.rm_rules.specs.Sessions.{LeavesForeign};
+ghost use Rattle.rm_rules.specs.Grants.{Run, run_of, RaisesForce, KeepsGrants, BytesAreKept, IsAdmittedAtOnce};
+ghost use Rattle.rm_rules.specs.Sessions.{session_in, LeavesForeign};
 
 /// Every state that a legal history leaves, from sound definitions on, is healthy.
 pub fn histories_are_healthy()
@@ -52,6 +53,38 @@ pub fn grants_are_kept()
         → IsSound d
         → IsLegal (start d room) entries
         → BytesAreKept (start d room) entries }
+{}
+
+/// A session that runs goes on with its query and its grant until its own seat finishes it, whatever others do.
+pub fn running_sessions_go_on()
+    ensures step { (s : State) (seat at owner session : ℕ) (event : Event) (run : Run)
+        → IsHealthy s
+        → IsFormed event
+        → run_of s owner session ≡ Some run
+        → (event ≡ Finish session → seat ≢ owner)
+        → run_of (step s seat at event).state owner session ≡ Some run }
+    ensures others { (s : State) (entries : List Entry) (owner session : ℕ) (run : Run)
+        → IsHealthy s
+        → IsLegal s entries
+        → own_entries owner entries ≡ []
+        → run_of s owner session ≡ Some run
+        → run_of (replay s entries) owner session ≡ Some run }
+{}
+
+/// A session that runs is finished by its own seat whenever that asks for it, and gives back the grant with which it ran.
+pub fn running_sessions_can_be_finished()
+    ensures { (s : State) (seat at session : ℕ) (run : Run)
+        → IsHealthy s
+        → run_of s seat session ≡ Some run
+        → (step s seat at (Finish session)).reply ≡ Released run.grant }
+{}
+
+/// Who is told that a session's query is admitted is told its number and its grant, with which it runs from then on.
+pub fn admitted_replies_tell_the_run()
+    ensures { (s : State) (seat at session query : ℕ) (event : Event) (pool : Name) (grant own borrowed : ℕ)
+        → session_in event ≡ Some session
+        → (step s seat at event).reply ≡ Admitted query pool grant own borrowed
+        → run_of (step s seat at event).state seat session ≡ Some (record { query = query; grant = grant }) }
 {}
 
 /// The memory in force rises only where a statement raises the total.

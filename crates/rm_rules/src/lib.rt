@@ -3,9 +3,11 @@
 
 pub mod acceptance;
 pub mod answer;
+pub mod arrangements;
 pub mod free_bytes;
 pub mod history;
 pub mod readings;
 pub mod room;
 pub mod select_examples;
+pub mod select_stages;
 pub mod state;

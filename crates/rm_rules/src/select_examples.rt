@@ -8,11 +8,13 @@ ghost use Rattle.rm_base.specs.declared.select.Op.TheVariants.{Equal, Unequal, A
 ghost use Rattle.rm_rules.specs.Meaning.{meaning, answer_of, fitting};
 ghost use Rattle.rm_rules.specs.Meaning.SelectOutcome.{Answer, SumOutOfRange};
 ghost use Rattle.rm_rules.specs.AllFits.{all_fits};
-ghost use Rattle.rm_rules.specs.SelectExamples.{int, few, others, texts, great, select_of, ordered_by, columns_test, value_test};
+ghost use Rattle.rm_rules.specs.SelectExamples.{int, few, others, texts, great, select_of, ordered_by};
+ghost use Rattle.rm_rules.specs.SelectExamples.{columns_test, value_test, side_tests};
 
 /// A comparison with Null is not true, of whatever kind it is.
 pub fn comparisons()
-    ensures unequal { meaning (select_of (Column 1 ∷ []) (value_test 0 Unequal (int 1) ∷ []) None) (few ∷ []) ≡ Answer [] }
+    ensures unequal { meaning (select_of (Column 1 ∷ []) (value_test 0 Unequal (int 1) ∷ []) None) (few ∷ [])
+        ≡ Answer [] }
     ensures at_most { meaning (select_of (Column 1 ∷ []) (value_test 1 AtMost (int 20) ∷ []) None) (few ∷ [])
         ≡ Answer ((int 10 ∷ []) ∷ (int 20 ∷ []) ∷ []) }
     ensures bytes { meaning (select_of (Column 1 ∷ []) (value_test 1 Greater (Words (codes "ab")) ∷ []) None) (texts ∷ [])
@@ -27,7 +29,8 @@ pub fn joined_rows()
 
 /// Null is a group of its own, and stands first. An aggregate of a column looks at the values that are not Null.
 pub fn groups()
-    ensures by_key { meaning (select_of (Column 0 ∷ CountAll ∷ Count 1 ∷ Sum 1 ∷ Min 1 ∷ Max 1 ∷ []) [] (Some (0 ∷ []))) (others ∷ [])
+    ensures by_key { meaning (select_of
+        (Column 0 ∷ CountAll ∷ Count 1 ∷ Sum 1 ∷ Min 1 ∷ Max 1 ∷ []) [] (Some (0 ∷ []))) (others ∷ [])
         ≡ Answer (
         (Null ∷ int 1 ∷ int 1 ∷ int 8 ∷ int 8 ∷ int 8 ∷ [])
         ∷ (int 1 ∷ int 2 ∷ int 1 ∷ int 5 ∷ int 5 ∷ int 5 ∷ [])
@@ -37,7 +40,7 @@ pub fn groups()
         ≡ Answer ((int 0 ∷ Null ∷ []) ∷ []) }
 {}
 
-/// What ORDER BY leaves open is ordered by all columns, ascending, also behind DESC. LIMIT takes the first rows of these.
+/// What ORDER BY leaves open is ordered by all columns, ascending, also behind DESC. LIMIT takes the first rows.
 pub fn orders()
     ensures falling { meaning (ordered_by 0 true None (select_of (Column 0 ∷ Column 1 ∷ []) [] None)) (texts ∷ [])
         ≡ Answer (
@@ -68,10 +71,10 @@ pub fn outputs_that_fit()
     ensures above { all_fits 355 (select_of (Column 0 ∷ []) [] None) (few ∷ []) ≡ false }
 {}
 
-/// So does a side: of the further table two rows pass the comparison on it, of 32 and 25 bytes, though none joins.
+/// So does a side: of the further table two rows pass the comparison on it, of 32 and 25 bytes, though none is joined.
 pub fn sides_that_fit()
-    ensures fits { all_fits 228 (select_of (Column 0 ∷ []) (value_test 1 AtMost (int 10) ∷ value_test 3 Greater (int 5) ∷ columns_test 0 Equal 2 ∷ []) None) (few ∷ others ∷ []) ≡ true }
-    ensures above { all_fits 227 (select_of (Column 0 ∷ []) (value_test 1 AtMost (int 10) ∷ value_test 3 Greater (int 5) ∷ columns_test 0 Equal 2 ∷ []) None) (few ∷ others ∷ []) ≡ false }
+    ensures fits { all_fits 228 (select_of (Column 0 ∷ []) side_tests None) (few ∷ others ∷ []) ≡ true }
+    ensures above { all_fits 227 (select_of (Column 0 ∷ []) side_tests None) (few ∷ others ∷ []) ≡ false }
 {}
 
 /// So does the table of groups: three keys, of 17, 24 and 24 bytes, each with 16 for the COUNT and 1,040 for the MIN.
@@ -80,11 +83,11 @@ pub fn groups_that_fit()
     ensures above { all_fits 12931 (select_of (Column 0 ∷ CountAll ∷ Min 1 ∷ []) [] (Some (0 ∷ []))) (others ∷ []) ≡ false }
 {}
 
-/// So do the rows of the result, of 48, 48 and 20 bytes, which are asked for before LIMIT, and not where a sum is out of
-/// range.
+/// So do the rows of the result, of 48, 48 and 20 bytes, which are asked for before LIMIT, but not where a sum is out
+/// of range.
 pub fn results_that_fit()
-    ensures fits { all_fits 464 (select_of (Column 0 ∷ Column 0 ∷ Column 0 ∷ Column 0 ∷ []) [] None) (few ∷ []) ≡ true }
-    ensures above { all_fits 463 (ordered_by 0 false (Some 1) (select_of (Column 0 ∷ Column 0 ∷ Column 0 ∷ Column 0 ∷ []) [] None)) (few ∷ []) ≡ false }
+    ensures fits { all_fits 464 (select_of (replicate 4 (Column 0)) [] None) (few ∷ []) ≡ true }
+    ensures above { all_fits 463 (ordered_by 0 false (Some 1) (select_of (replicate 4 (Column 0)) [] None)) (few ∷ []) ≡ false }
     ensures groups { all_fits 512 (select_of (Count 1 ∷ replicate 9 (Column 0)) [] (Some (0 ∷ []))) (great ∷ []) ≡ false }
     ensures no_rows { all_fits 512 (select_of (Sum 1 ∷ replicate 9 (Column 0)) [] (Some (0 ∷ []))) (great ∷ []) ≡ true }
 {}

@@ -19,6 +19,7 @@ mod lines;
 mod options;
 mod queue;
 mod statements;
+mod users;
 
 /// The words that most scripts here run with. T is 95 percent of 100 MiB, which is 99,614,720 bytes, the threshold of
 /// GENERAL 95 percent of that, 94,633,984, and its budget a quarter of the threshold, 23,658,496.

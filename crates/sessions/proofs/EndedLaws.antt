@@ -1,32 +1,26 @@
--- What each end of a script says of its status and of what was written.
-use Rattle.std.proofs.Common.{◌≡◌, ◌≢◌, ◌↔◌, ◌⊎◌, inl, inr, ℕ, ◌≤◌, ◌<◌, true, cond, eqb, ltb, List, [], length, Option, Some, None, refl, sym, ap, ◌∙◌, subst, arith, append-nil, length-append}
+-- What each end of a script says of its status, and of what was read and written.
+use Rattle.std.proofs.Common.{◌≡◌, ◌≢◌, ◌⊎◌, inl, inr, ℕ, ◌≤◌, ◌<◌, true, cond, eqb, ltb, List, [], length, Option, Some, None, Result, Ok, Err, refl, sym, ap, ◌∙◌, subst, arith, append-nil, length-append}
 use Rattle.std.specs.Option.{IsSome, IfSome}
 use Rattle.std.specs.Io.KnownBytes.{Appends, Keeps, IsAtEnd}
 use Rattle.std.proofs.lemmas.Bool.{false≢true}
 use Rattle.std.proofs.lemmas.Bool.Decides.{nat_tests}
 use Rattle.rm_base.specs.declared.limits.TheConstants.{SCRIPT_MOST}
-use Rattle.rm_outside.specs.Faults.{Rose}
-use Rattle.sessions.specs.declared.ended.Ended.{Ended}
-use Rattle.sessions.specs.declared.ended.Ended.TheVariants as ended
+use Rattle.sessions.specs.declared.failure.Failure.{Failure}
+use Rattle.sessions.specs.declared.failure.Failure.TheVariants.{Usage, BadLine, ReadFault, WriteFault, Memory, TooLong}
 use Rattle.sessions.specs.declared.options.Options.{Options}
 use Rattle.sessions.specs.declared.status.TheConstants.{DONE, USAGE, BAD_LINE, READ_FAULT, WRITE_FAULT, NO_MEMORY, TOO_LONG}
-use Rattle.sessions.specs.Ended.{Streams, status_of, WroteWhole, WrotePart, EndsAs}
-use Rattle.std.specs.Str.Lines.{lines}
+use Rattle.sessions.specs.Ended.{WroteWhole, WrotePart, WroteNothing, EndsAs, IsRun}
+use Rattle.sessions.specs.Failures.{status_of}
+use Rattle.sessions.specs.Options.{options_of}
 use Rattle.sessions.specs.Script.{ScriptEnd, no_script, script_with, first_state, lines_end}
-use Rattle.sessions.specs.Transfers.{IsTooLong}
+use Rattle.sessions.specs.Transfers.{ReadFront, IsTooLong}
+use Rattle.sessions.specs.World.{World, CountsNoFault}
+use Rattle.sessions.proofs.ScriptLaws.{one_history}
+use Rattle.std.specs.Str.Lines.{lines}
 
--- what holds of the value, if there is one
-if_some : {A : Type 0} (o : Option A) (P : A → Type 0) → ((x : A) → o ≡ Some x → P x) → IfSome o P
-if_some None P each = tt
-if_some (Some x) P each = each x refl
-
-pub always : {A : Type 0} (o : Option A) (P : A → Type 0) → ((x : A) → P x) → IfSome o P
-always None P each = tt
-always (Some x) P each = each x
-
-at_some : {A : Type 0} (o : Option A) (P : A → Type 0) (x : A) → IfSome o P → o ≡ Some x → P x
-at_some None P x h e = absurd (cc)
-at_some (Some y) P x h e = let same : y ≡ x = cc in subst P same h
+-- how the run of a script ended
+abbrev Ended : Type 0
+Ended = Result (Unit {0}) Failure
 
 nothing_appended : (a b : Option (List ℕ)) → Keeps a b → Appends a b []
 nothing_appended None b h = tt
@@ -38,126 +32,120 @@ long-turn : (bytes : List ℕ) (now : Option (List ℕ)) → IsTooLong (Some byt
 long-turn bytes None h = absurd h.read
 long-turn bytes (Some rest) h = omega (arith, h.long, ap length h.read, length-append h.bytes rest)
 
-too_long-script : (o : Options) (bytes : List ℕ) → SCRIPT_MOST < length bytes → script_with (Some o) bytes ≡ no_script TOO_LONG
-too_long-script o bytes long =
+long-exact : (o : Option Options) (old new : World) → IsSome o → Keeps old.output.told new.output.told → IsTooLong old.input.told new.input.told → WroteWhole (script_with o) old new TOO_LONG
+long-exact None old new some kept long = absurd (false≢true some)
+long-exact (Some o) old new some kept long = λ bytes files stored given.
+    let too : SCRIPT_MOST < length bytes = long-turn bytes new.input.told (subst (λ (q : Option (List ℕ)). IsTooLong q new.input.told) given.of_input long) in
     let is : ltb SCRIPT_MOST (length bytes) ≡ true = grind (arith, nat_tests) in
-    ap (λ b. cond b (no_script TOO_LONG) (lines_end 1 (first_state o) (lines bytes))) is
+    let P : ScriptEnd → Type 0 = λ e. Appends old.output.told new.output.told e.text × (e.status ≡ TOO_LONG) in
+    subst P (sym (ap (λ b. cond b (no_script TOO_LONG) (lines_end 1 (first_state o) (lines bytes))) is)) (nothing_appended old.output.told new.output.told kept, refl)
 
--- the text and the status are the script's
-abbrev pub IsScript : Option Options → Streams → ℕ → Type 0
-IsScript o s status = IfSome s.left (λ bytes. Appends s.written s.written_now (script_with o bytes).text × (status ≡ (script_with o bytes).status))
-
-whole-exact : (o : Option Options) (s : Streams) (status : ℕ) → WroteWhole o s status → IsScript o s status
-whole-exact o s status h = if_some s.left _ (λ bytes told. let w = at_some s.left (λ b. Appends s.written s.written_now (script_with o b).text × ((script_with o b).status ≡ status)) bytes h told in (w.0, sym w.1))
-
-usage-exact : (o : Option Options) (s : Streams) → o ≡ None → Keeps s.written s.written_now → IsScript o s USAGE
-usage-exact o s none kept =
-    subst (λ (q : Option Options). IsScript q s USAGE) (sym none) (if_some s.left _ (λ bytes told. (nothing_appended s.written s.written_now kept, refl)))
-
-long-exact : (o : Option Options) (s : Streams) → IsSome o → IsTooLong s.left s.left_now → Keeps s.written s.written_now → IsScript o s TOO_LONG
-long-exact None s some long kept = absurd (false≢true some)
-long-exact (Some o) s some long kept =
-    if_some s.left _ (λ bytes told.
-    let too = long-turn bytes s.left_now (subst (λ (q : Option (List ℕ)). IsTooLong q s.left_now) told long) in
-    let is = too_long-script o bytes too in
-    let P : ScriptEnd → Type 0 = λ e. Appends s.written s.written_now e.text × (TOO_LONG ≡ e.status) in
-    subst P (sym is) (nothing_appended s.written s.written_now kept, refl))
-
-pub exact : (o : Option Options) (s : Streams) (e : Ended) → EndsAs o s e → (Rose s.reads s.reads_now → ⊥) → (Rose s.writes s.writes_now → ⊥) → status_of e ≢ NO_MEMORY
-    → IsScript o s (status_of e)
-exact o s ended.Done h r w m = whole-exact o s DONE h.1
-exact o s ended.Usage h r w m = usage-exact o s h.0 h.1
-exact o s ended.BadLine h r w m = whole-exact o s BAD_LINE h.1
-exact o s ended.ReadFault h r w m = absurd (r h.1)
-exact o s ended.WriteFault h r w m = absurd (w h.1)
-exact o s ended.Memory h r w m = absurd (m refl)
-exact o s ended.TooLong h r w m = long-exact o s h.0 h.1 h.2
+-- the headline: where no fault was counted and memory was not wanting, the text and the status are the script's
+exact : (o : Option Options) (old new : World) (r : Ended) → EndsAs o old new r → CountsNoFault old new → status_of r ≢ NO_MEMORY → WroteWhole (script_with o) old new (status_of r)
+exact o old new (Ok done) h none memory = h.1
+exact o old new (Err Usage) h none memory =
+    subst (λ (q : Option Options). WroteWhole (script_with q) old new USAGE) (sym h.0) (λ bytes files stored given. (nothing_appended old.output.told new.output.told h.1, refl))
+exact o old new (Err BadLine) h none memory = h.1
+exact o old new (Err ReadFault) h none memory = absurd (none.input h.2)
+exact o old new (Err WriteFault) h none memory = absurd (none.output h.2)
+exact o old new (Err Memory) h none memory = absurd (memory refl)
+exact o old new (Err TooLong) h none memory = long-exact o old new h.0 h.1 h.2
 
 some-none : {A : Type 0} (o : Option A) → IsSome o → o ≡ None → ⊥
 some-none None some none = false≢true some
 some-none (Some x) some none = absurd (cc)
 
+none-usage : (o : Option Options) (old new : World) (r : Ended) → EndsAs o old new r → o ≡ None → status_of r ≡ USAGE
+none-usage o old new (Ok done) h none = absurd (some-none o h.0.known none)
+none-usage o old new (Err Usage) h none = refl
+none-usage o old new (Err BadLine) h none = absurd (some-none o h.0.known none)
+none-usage o old new (Err ReadFault) h none = absurd (some-none o h.0 none)
+none-usage o old new (Err WriteFault) h none = absurd (some-none o h.0.known none)
+none-usage o old new (Err Memory) h none = absurd (some-none o h.0 none)
+none-usage o old new (Err TooLong) h none = absurd (some-none o h.0 none)
+
+known : (r : Ended) → (status_of r ≡ DONE) ⊎ ((status_of r ≡ USAGE) ⊎ ((status_of r ≡ BAD_LINE) ⊎ ((status_of r ≡ READ_FAULT) ⊎ ((status_of r ≡ WRITE_FAULT) ⊎ ((status_of r ≡ NO_MEMORY) ⊎ (status_of r ≡ TOO_LONG))))))
+known (Ok done) = inl refl
+known (Err Usage) = inr (inl refl)
+known (Err BadLine) = inr (inr (inl refl))
+known (Err ReadFault) = inr (inr (inr (inl refl)))
+known (Err WriteFault) = inr (inr (inr (inr (inl refl))))
+known (Err Memory) = inr (inr (inr (inr (inr (inl refl)))))
+known (Err TooLong) = inr (inr (inr (inr (inr (inr refl)))))
+
+-- a script that is too long is not run
+abbrev NotRun : ℕ → Type 0
+NotRun status = (status ≡ USAGE) ⊎ ((status ≡ READ_FAULT) ⊎ ((status ≡ NO_MEMORY) ⊎ (status ≡ TOO_LONG)))
+
+always : (a : Option (List ℕ)) (P : List ℕ → Type 0) → ((b : List ℕ) → P b) → IfSome a P
+always None P each = tt
+always (Some x) P each = each x
+
+was_short : (a : Option (List ℕ)) (status : ℕ) → IfSome a (λ b. length b ≤ SCRIPT_MOST) → IfSome a (λ b. SCRIPT_MOST < length b → NotRun status)
+was_short None status short = tt
+was_short (Some b) status short = λ long. absurd (omega (arith, short, long))
+
+never_run : (o : Option Options) (old new : World) (r : Ended) → EndsAs o old new r → IfSome old.input.told (λ bytes. SCRIPT_MOST < length bytes → NotRun (status_of r))
+never_run o old new (Ok done) h = was_short old.input.told DONE h.0.short
+never_run o old new (Err Usage) h = always old.input.told _ (λ bytes long. inl refl)
+never_run o old new (Err BadLine) h = was_short old.input.told BAD_LINE h.0.short
+never_run o old new (Err ReadFault) h = always old.input.told _ (λ bytes long. inr (inl refl))
+never_run o old new (Err WriteFault) h = was_short old.input.told WRITE_FAULT h.0.short
+never_run o old new (Err Memory) h = always old.input.told _ (λ bytes long. inr (inr (inl refl)))
+never_run o old new (Err TooLong) h = always old.input.told _ (λ bytes long. inr (inr (inr refl)))
+
 -- an end by its status
 abbrev ended_of : ℕ → Ended
 ended_of n =
-    cond (eqb n DONE) ended.Done (cond (eqb n USAGE) ended.Usage (cond (eqb n BAD_LINE) ended.BadLine
-    (cond (eqb n READ_FAULT) ended.ReadFault (cond (eqb n WRITE_FAULT) ended.WriteFault (cond (eqb n NO_MEMORY) ended.Memory ended.TooLong)))))
+    cond (eqb n DONE) (Ok tt) (Err (cond (eqb n USAGE) Usage (cond (eqb n BAD_LINE) BadLine
+    (cond (eqb n READ_FAULT) ReadFault (cond (eqb n WRITE_FAULT) WriteFault (cond (eqb n NO_MEMORY) Memory TooLong))))))
 
-ended_of-status : (e : Ended) → ended_of (status_of e) ≡ e
-ended_of-status ended.Done = refl
-ended_of-status ended.Usage = refl
-ended_of-status ended.BadLine = refl
-ended_of-status ended.ReadFault = refl
-ended_of-status ended.WriteFault = refl
-ended_of-status ended.Memory = refl
-ended_of-status ended.TooLong = refl
+ended_of-status : (r : Ended) → ended_of (status_of r) ≡ r
+ended_of-status (Ok done) = refl
+ended_of-status (Err Usage) = refl
+ended_of-status (Err BadLine) = refl
+ended_of-status (Err ReadFault) = refl
+ended_of-status (Err WriteFault) = refl
+ended_of-status (Err Memory) = refl
+ended_of-status (Err TooLong) = refl
 
 -- two ends with one status are one end, and leave the same
-at_status : (o : Option Options) (s : Streams) (e f : Ended) → EndsAs o s e → status_of e ≡ status_of f → EndsAs o s f
-at_status o s e f h k = subst (EndsAs o s) (sym (ended_of-status e) ∙ ap ended_of k ∙ ended_of-status f) h
+at_status : (o : Option Options) (old new : World) (r e : Ended) → EndsAs o old new r → status_of r ≡ status_of e → EndsAs o old new e
+at_status o old new r e h k = subst (EndsAs o old new) (sym (ended_of-status r) ∙ ap ended_of k ∙ ended_of-status e) h
 
-none-usage : (o : Option Options) (s : Streams) (e : Ended) → EndsAs o s e → o ≡ None → status_of e ≡ USAGE
-none-usage o s ended.Done h none = absurd (some-none o h.0 none)
-none-usage o s ended.Usage h none = refl
-none-usage o s ended.BadLine h none = absurd (some-none o h.0 none)
-none-usage o s ended.ReadFault h none = absurd (some-none o h.0 none)
-none-usage o s ended.WriteFault h none = absurd (some-none o h.0 none)
-none-usage o s ended.Memory h none = absurd (some-none o h.0 none)
-none-usage o s ended.TooLong h none = absurd (some-none o h.0 none)
+read_whole : (o : Option Options) (old new : World) (r : Ended) → EndsAs o old new r → (status_of r ≡ DONE) ⊎ (status_of r ≡ BAD_LINE) → IsAtEnd new.input.told
+read_whole o old new r h (inl k) = (at_status o old new r (Ok tt) h k).0.read
+read_whole o old new r h (inr k) = (at_status o old new r (Err BadLine) h k).0.read
 
-pub usage : (o : Option Options) (s : Streams) (e : Ended) → EndsAs o s e → (status_of e ≡ USAGE) ↔ (o ≡ None)
-usage o s e h = (λ k. (at_status o s e ended.Usage h k).0, none-usage o s e h)
+own : (o : Option Options) (old new : World) (r : Ended) → EndsAs o old new r → (status_of r ≡ DONE) ⊎ (status_of r ≡ BAD_LINE) → WroteWhole (script_with o) old new (status_of r)
+own o old new r h (inl k) = subst (WroteWhole (script_with o) old new) (sym k) (at_status o old new r (Ok tt) h k).1
+own o old new r h (inr k) = subst (WroteWhole (script_with o) old new) (sym k) (at_status o old new r (Err BadLine) h k).1
 
-pub read_fault : (o : Option Options) (s : Streams) (e : Ended) → EndsAs o s e → status_of e ≡ READ_FAULT → Rose s.reads s.reads_now
-read_fault o s e h k = (at_status o s e ended.ReadFault h k).1
+nothing : (o : Option Options) (old new : World) (r : Ended) → EndsAs o old new r → (status_of r ≡ USAGE) ⊎ ((status_of r ≡ READ_FAULT) ⊎ (status_of r ≡ TOO_LONG)) → WroteNothing old new
+nothing o old new r h (inl k) = (at_status o old new r (Err Usage) h k).1
+nothing o old new r h (inr (inl k)) = (at_status o old new r (Err ReadFault) h k).1
+nothing o old new r h (inr (inr k)) = (at_status o old new r (Err TooLong) h k).1
 
-pub write_fault : (o : Option Options) (s : Streams) (e : Ended) → EndsAs o s e → status_of e ≡ WRITE_FAULT → Rose s.writes s.writes_now
-write_fault o s e h k = (at_status o s e ended.WriteFault h k).1
+front : (o : Option Options) (old new : World) (r : Ended) → EndsAs o old new r → (status_of r ≡ WRITE_FAULT) ⊎ (status_of r ≡ NO_MEMORY) → WrotePart (script_with o) old new
+front o old new r h (inl k) = (at_status o old new r (Err WriteFault) h k).1
+front o old new r h (inr k) = (at_status o old new r (Err Memory) h k).1
 
-pub too_long : (o : Option Options) (s : Streams) (e : Ended) → EndsAs o s e → status_of e ≡ TOO_LONG → IsTooLong s.left s.left_now
-too_long o s e h k = (at_status o s e ended.TooLong h k).1
-
-pub read_whole : (o : Option Options) (s : Streams) (e : Ended) → EndsAs o s e → (status_of e ≡ DONE) ⊎ (status_of e ≡ BAD_LINE) → IsAtEnd s.left_now
-read_whole o s e h (inl k) = (at_status o s e ended.Done h k).2
-read_whole o s e h (inr k) = (at_status o s e ended.BadLine h k).2
-
-pub own : (o : Option Options) (s : Streams) (e : Ended) → EndsAs o s e → (status_of e ≡ DONE) ⊎ (status_of e ≡ BAD_LINE) → WroteWhole o s (status_of e)
-own o s e h (inl k) = subst (WroteWhole o s) (sym k) (at_status o s e ended.Done h k).1
-own o s e h (inr k) = subst (WroteWhole o s) (sym k) (at_status o s e ended.BadLine h k).1
-
-pub nothing : (o : Option Options) (s : Streams) (e : Ended) → EndsAs o s e → (status_of e ≡ USAGE) ⊎ ((status_of e ≡ READ_FAULT) ⊎ (status_of e ≡ TOO_LONG)) → Keeps s.written s.written_now
-nothing o s e h (inl k) = (at_status o s e ended.Usage h k).1
-nothing o s e h (inr (inl k)) = (at_status o s e ended.ReadFault h k).2
-nothing o s e h (inr (inr k)) = (at_status o s e ended.TooLong h k).2
-
-pub front : (o : Option Options) (s : Streams) (e : Ended) → EndsAs o s e → (status_of e ≡ WRITE_FAULT) ⊎ (status_of e ≡ NO_MEMORY) → WrotePart o s
-front o s e h (inl k) = (at_status o s e ended.WriteFault h k).3
-front o s e h (inr k) = (at_status o s e ended.Memory h k).1
-
-pub known : (e : Ended) → (status_of e ≡ DONE) ⊎ ((status_of e ≡ USAGE) ⊎ ((status_of e ≡ BAD_LINE) ⊎ ((status_of e ≡ READ_FAULT) ⊎ ((status_of e ≡ WRITE_FAULT) ⊎ ((status_of e ≡ NO_MEMORY) ⊎ (status_of e ≡ TOO_LONG))))))
-known ended.Done = inl refl
-known ended.Usage = inr (inl refl)
-known ended.BadLine = inr (inr (inl refl))
-known ended.ReadFault = inr (inr (inr (inl refl)))
-known ended.WriteFault = inr (inr (inr (inr (inl refl))))
-known ended.Memory = inr (inr (inr (inr (inr (inl refl)))))
-known ended.TooLong = inr (inr (inr (inr (inr (inr refl)))))
-
-never_whole : (o : Option Options) (s : Streams) (status : ℕ) → IsSome o → WroteWhole o s status → (TOO_LONG ≡ status → ⊥)
-    → IfSome s.left (λ bytes. SCRIPT_MOST < length bytes → (status ≡ USAGE) ⊎ ((status ≡ READ_FAULT) ⊎ ((status ≡ NO_MEMORY) ⊎ (status ≡ TOO_LONG))))
-never_whole None s status some whole other = absurd (false≢true some)
-never_whole (Some o) s status some whole other =
-    if_some s.left _ (λ bytes told long.
-    let w = at_some s.left (λ b. Appends s.written s.written_now (script_with (Some o) b).text × ((script_with (Some o) b).status ≡ status)) bytes whole told in
-    absurd (other (sym (ap (λ (e : ScriptEnd). e.status) (too_long-script o bytes long)) ∙ w.1)))
-
--- a script that is too long is not run
-pub never_run : (o : Option Options) (s : Streams) (e : Ended) → EndsAs o s e
-    → IfSome s.left (λ bytes. SCRIPT_MOST < length bytes → (status_of e ≡ USAGE) ⊎ ((status_of e ≡ READ_FAULT) ⊎ ((status_of e ≡ NO_MEMORY) ⊎ (status_of e ≡ TOO_LONG))))
-never_run o s ended.Done h = never_whole o s DONE h.0 h.1 (omega arith)
-never_run o s ended.Usage h = always s.left _ (λ bytes long. inl refl)
-never_run o s ended.BadLine h = never_whole o s BAD_LINE h.0 h.1 (omega arith)
-never_run o s ended.ReadFault h = always s.left _ (λ bytes long. inr (inl refl))
-never_run o s ended.WriteFault h = if_some s.left _ (λ bytes told long. let short = at_some s.left (λ b. length b ≤ SCRIPT_MOST) bytes h.2 told in absurd (omega (arith, short, long)))
-never_run o s ended.Memory h = always s.left _ (λ bytes long. inr (inr (inl refl)))
-never_run o s ended.TooLong h = always s.left _ (λ bytes long. inr (inr (inr refl)))
+-- what every run of a script leaves, by how it ended
+pub is_run : (words : List (List ℕ)) (old new : World) (r : Ended) → EndsAs (options_of words) old new r → ReadFront old.input.told new.input.told → IsRun words old new (status_of r)
+is_run words old new r h reads =
+    let o = options_of words in
+    record {
+      exact = exact o old new r h;
+      one_history = λ options is bytes files stored given. one_history words bytes files stored options is;
+      usage = (λ k. (at_status o old new r (Err Usage) h k).0, none-usage o old new r h);
+      read_fault = λ k. (at_status o old new r (Err ReadFault) h k).2;
+      write_fault = λ k. (at_status o old new r (Err WriteFault) h k).2;
+      too_long = λ k. (at_status o old new r (Err TooLong) h k).2;
+      never_run = never_run o old new r h;
+      known = known r;
+      reads = reads;
+      read_whole = read_whole o old new r h;
+      own = own o old new r h;
+      nothing = nothing o old new r h;
+      front = front o old new r h;
+    }

@@ -6,4 +6,7 @@ pub mod Written
 pub mod OptionsLaws
 pub mod ScriptLaws
 pub mod EndedLaws
+pub mod EndedLemmas
+mod NamesLemmas
 pub mod RunLemmas
+pub mod HostLaws

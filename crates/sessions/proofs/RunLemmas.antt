@@ -1,25 +1,17 @@
 -- How a script's lines run and end.
-use Rattle.std.proofs.Common.{◌≡◌, ℕ, ◌+◌, ◌≤◌, false, cond, ltb, List, [], ◌∷◌, ◌++◌, length, Option, Some, None, Result, Ok, Err, refl, sym, ap, ◌∙◌, subst, arith, append_assoc, append-nil}
-use Rattle.std.specs.Prelude.{OnOk, IfErr, IfSome, IfNone}
+use Rattle.std.proofs.Common.{◌≡◌, ℕ, ◌+◌, ◌≤◌, ◌<◌, List, [], ◌∷◌, ◌++◌, length, Option, Some, None, Result, Ok, Err, refl, sym, ap, ◌∙◌, subst, arith, append_assoc, append-nil}
+use Rattle.std.specs.Prelude.{OnOk, IfErr}
 use Rattle.std.specs.Io.KnownBytes.{Appends, Keeps}
-use Rattle.std.proofs.KnownBytes.{Appends-trans, Appends-nil, Consumes-whole}
+use Rattle.std.proofs.KnownBytes.{Appends-trans, Appends-nil}
 use Rattle.std.specs.Str.Lines.{lines}
-use Rattle.std.proofs.lemmas.Bool.Decides.{nat_tests}
-use Rattle.rm_base.specs.declared.limits.TheConstants.{SCRIPT_MOST}
-use Rattle.rm_outside.specs.declared.outside.Outside.{Outside}
-use Rattle.rm_outside.specs.declared.outside.Outside.TheVariants as outside
-use Rattle.sessions.specs.declared.ended.LinesEnd.{LinesEnd}
-use Rattle.sessions.specs.declared.ended.LinesEnd.TheVariants as end
-use Rattle.sessions.specs.declared.input.InputError.{InputError}
-use Rattle.sessions.specs.declared.input.InputError.TheVariants as input
-use Rattle.rm_base.specs.declared.limits.TheConstants.{LINES_MOST}
-use Rattle.sessions.specs.declared.options.Options.{Options}
-use Rattle.sessions.specs.declared.status.TheConstants.{BAD_LINE, TOO_LONG}
-use Rattle.sessions.specs.Ended.{Streams, end_of_lines, end_of_input, EndsAs}
-use Rattle.sessions.specs.Script.{ScriptState, Bad, Goes, ScriptEnd, no_script, first_state, script_with, after_text, turn_end, line_turn, lines_end}
-use Rattle.sessions.specs.Running.{LinesEnded, stopped_by, bad_line_end, stop_after, WentOn, EndedAt}
+use Rattle.sessions.specs.declared.failure.Failure.{Failure}
+use Rattle.sessions.specs.declared.failure.Failure.TheVariants.{Usage, BadLine, ReadFault, WriteFault, Memory, TooLong}
+use Rattle.sessions.specs.Running.{IsLineFault, LinesEnded, WentOn, EndedAt}
+use Rattle.sessions.specs.Script.{ScriptEnd, after_text, turn_end, line_turn, lines_end}
 use Rattle.sessions.specs.Texts.{bad_text}
-use Rattle.sessions.specs.Transfers.{IsWholeInput, ExplainsInput, WroteFront, ExplainsOutput}
+use Rattle.sessions.specs.Transfers.{WroteFront, ExplainsOutput}
+use Rattle.sessions.specs.Turns.{ScriptState, Bad, Goes}
+use Rattle.sessions.specs.World.{Seen}
 
 -- nothing of a text was written
 pub wrote_nothing : (a b : Option (List ℕ)) (text : List ℕ) → Keeps a b → WroteFront a b text
@@ -42,123 +34,93 @@ after a b c done text first w =
       wrote = Appends-trans a b c done w.front first w.wrote;
     }
 
-pub stopped-ends : (a b : Option (List ℕ)) (o n : ℕ) (text : List ℕ) (status : ℕ) (error : Outside) → ExplainsOutput a b o n text error → LinesEnded a b o n text status (stopped_by error)
-stopped-ends a b o n text status outside.Failed h = (h.wrote, h.failed refl)
-stopped-ends a b o n text status outside.Memory h = h.wrote
-
-pub bad_line-ends : (a b : Option (List ℕ)) (o n : ℕ) (text : List ℕ) (r : Result (Unit {0}) Outside) → OnOk r (Appends a b text) → IfErr r (ExplainsOutput a b o n text)
-    → LinesEnded a b o n text BAD_LINE (bad_line_end r)
-bad_line-ends a b o n text (Ok done) whole err = (whole, refl)
-bad_line-ends a b o n text (Err error) whole err = stopped-ends a b o n text BAD_LINE error err
-
--- a line's text, and what the script ends with after it
-longer-ends : (a b : Option (List ℕ)) (o n : ℕ) (text more : List ℕ) (status : ℕ) (error : Outside) → ExplainsOutput a b o n text error → LinesEnded a b o n (text ++ more) status (stopped_by error)
-longer-ends a b o n text more status outside.Failed h = (longer a b text more h.wrote, h.failed refl)
-longer-ends a b o n text more status outside.Memory h = longer a b text more h.wrote
+-- the text of a line could not be written, and the script's text is longer
+unwritten : (old new : Seen (Option (List ℕ))) (text more : List ℕ) (end : ScriptEnd) (f : Failure) → end.text ≡ text ++ more → ExplainsOutput old new text f → LinesEnded old new end (Err f)
+unwritten old new text more end Usage same h = absurd h
+unwritten old new text more end BadLine same h = absurd h
+unwritten old new text more end ReadFault same h = absurd h
+unwritten old new text more end WriteFault same h = (subst (WroteFront old.told new.told) (sym same) (longer old.told new.told text more h.0), h.1)
+unwritten old new text more end Memory same h = subst (WroteFront old.told new.told) (sym same) (longer old.told new.told text more h)
+unwritten old new text more end TooLong same h = absurd h
 
 -- a line that prints this text: the script goes on, or ends where the text could not be written
-pub printed-goes : (number : ℕ) (s s' : ScriptState) (line : List ℕ) (a b : Option (List ℕ)) (text : List ℕ) (r : Result (Unit {0}) Outside)
-    → line_turn number s line ≡ Goes text s' → number ≤ LINES_MOST → OnOk r (Appends a b text) → IfNone (stop_after r) (WentOn number s s' line a b)
-printed-goes number s s' line a b text (Ok done) turn early whole = record { text = text; turn = turn; wrote = whole; early = early }
-printed-goes number s s' line a b text (Err error) turn early whole = tt
+pub printed-goes : (s s' : ScriptState) (line : List ℕ) (a b : Option (List ℕ)) (text : List ℕ) (r : Result (Unit {0}) Failure) → line_turn s line ≡ Goes text s'
+    → OnOk r (Appends a b text) → OnOk r (WentOn s s' line a b)
+printed-goes s s' line a b text (Ok done) turn whole = record { text = text; turn = turn; wrote = whole }
+printed-goes s s' line a b text (Err f) turn whole = tt
 
-pub printed-ends : (number : ℕ) (s s' : ScriptState) (line : List ℕ) (a b : Option (List ℕ)) (o n : ℕ) (text : List ℕ) (r : Result (Unit {0}) Outside)
-    → line_turn number s line ≡ Goes text s' → IfErr r (ExplainsOutput a b o n text) → IfSome (stop_after r) (EndedAt number s line a b o n)
-printed-ends number s s' line a b o n text (Ok done) turn err = tt
-printed-ends number s s' line a b o n text (Err error) turn err =
-    λ next. let P : ScriptEnd → Type 0 = λ e. LinesEnded a b o n e.text e.status (stopped_by error) in
-    subst P (sym (ap (λ t. turn_end number s t next) turn)) (longer-ends a b o n text (next s').text (next s').status error err)
+pub printed-ends : (number : ℕ) (s s' : ScriptState) (line : List ℕ) (old new : Seen (Option (List ℕ))) (text : List ℕ) (r : Result (Unit {0}) Failure) → line_turn s line ≡ Goes text s'
+    → IfErr r (ExplainsOutput old new text) → IfErr r (EndedAt number s line old new)
+printed-ends number s s' line old new text (Ok done) turn err = tt
+printed-ends number s s' line old new text (Err f) turn err =
+    λ next. unwritten old new text (next s').text (turn_end number s (line_turn s line) next) f (ap (λ t. (turn_end number s t next).text) turn) err
 
--- a line that is bad ends the script
-pub bad-ends : (number : ℕ) (s : ScriptState) (line : List ℕ) (a b : Option (List ℕ)) (o n : ℕ) (r : LinesEnd) → line_turn number s line ≡ Bad
-    → LinesEnded a b o n (bad_text number) BAD_LINE r → EndedAt number s line a b o n r
-bad-ends number s line a b o n r turn h =
-    λ next. let P : ScriptEnd → Type 0 = λ e. LinesEnded a b o n e.text e.status r in
-    subst P (sym (ap (λ t. turn_end number s t next) turn)) h
+-- a line that is bad ends the script, also where this could not be said
+pub bad-ends : (number : ℕ) (s : ScriptState) (line : List ℕ) (old new : Seen (Option (List ℕ))) → line_turn s line ≡ Bad → Appends old.told new.told (bad_text number)
+    → EndedAt number s line old new BadLine
+bad-ends number s line old new turn wrote =
+    λ next. let P : ScriptEnd → Type 0 = λ e. LinesEnded old new e (Err BadLine) in
+    subst P (sym (ap (λ t. turn_end number s t next) turn)) (wrote, refl)
 
--- a script as far as it has run
-pub record HasRun (bytes rest : List ℕ) (first now : ScriptState) (number : ℕ) (before after : Option (List ℕ)) (old new : ℕ) : Type 0 where
+pub bad-unwritten : (number : ℕ) (s : ScriptState) (line : List ℕ) (old new : Seen (Option (List ℕ))) (f : Failure) → line_turn s line ≡ Bad → ExplainsOutput old new (bad_text number) f
+    → EndedAt number s line old new f
+bad-unwritten number s line old new f turn err =
+    λ next. unwritten old new (bad_text number) [] (turn_end number s (line_turn s line) next) f (ap (λ t. (turn_end number s t next).text) turn ∙ sym (append-nil (bad_text number))) err
+
+-- a line that fails writes nothing
+pub fault-ends : (number : ℕ) (s : ScriptState) (line : List ℕ) (old new : Seen (Option (List ℕ))) (f : Failure) → Keeps old.told new.told → IsLineFault f → EndedAt number s line old new f
+fault-ends number s line old new Usage kept h = absurd h
+fault-ends number s line old new BadLine kept h = absurd h
+fault-ends number s line old new ReadFault kept h = absurd h
+fault-ends number s line old new WriteFault kept h = absurd h
+fault-ends number s line old new Memory kept h = λ next. wrote_nothing old.told new.told (turn_end number s (line_turn s line) next).text kept
+fault-ends number s line old new TooLong kept h = absurd h
+
+-- a script as far as it has run: each line took a byte at least, so the lines are no more than the bytes
+pub record HasRun (bytes rest : List ℕ) (first now : ScriptState) (number : ℕ) (old new : Seen (Option (List ℕ))) : Type 0 where
   pub done : List ℕ
-  pub wrote : Appends before after done
+  pub wrote : Appends old.told new.told done
   pub same : lines_end 1 first (lines bytes) ≡ after_text done (lines_end number now (lines rest))
-  pub later : old ≤ new
-  pub early : number ≤ LINES_MOST + 1
+  pub later : old.faults ≤ new.faults
+  pub counted : number + length rest ≤ length bytes + 1
 
-pub has_run-start : (bytes : List ℕ) (s : ScriptState) (a : Option (List ℕ)) (o : ℕ) → HasRun bytes bytes s s 1 a a o o
-has_run-start bytes s a o = record { done = []; wrote = Appends-nil a; same = refl; later = omega arith; early = omega arith }
+pub has_run-start : (bytes : List ℕ) (s : ScriptState) (a : Seen (Option (List ℕ))) → HasRun bytes bytes s s 1 a a
+has_run-start bytes s a = record { done = []; wrote = Appends-nil a.told; same = refl; later = omega arith; counted = omega arith }
 
-pub has_run-more : (bytes rest more line : List ℕ) (first now next : ScriptState) (number : ℕ) (a b c : Option (List ℕ)) (o m n : ℕ)
-    → HasRun bytes rest first now number a b o m → lines rest ≡ line ∷ lines more → WentOn number now next line b c → m ≤ n
-    → HasRun bytes more first next (number + 1) a c o n
-has_run-more bytes rest more line first now next number a b c o m n run cut went later =
+pub has_run-more : (bytes rest more line : List ℕ) (first now next : ScriptState) (number : ℕ) (a b c : Seen (Option (List ℕ))) → HasRun bytes rest first now number a b
+    → lines rest ≡ line ∷ lines more → length more < length rest → WentOn now next line b.told c.told → b.faults ≤ c.faults → HasRun bytes more first next (number + 1) a c
+has_run-more bytes rest more line first now next number a b c run cut shorter went later =
     let turned : lines_end number now (lines rest) ≡ after_text went.text (lines_end (number + 1) next (lines more)) =
     ap (lines_end number now) cut ∙ ap (λ t. turn_end number now t (λ s. lines_end (number + 1) s (lines more))) went.turn in
     record {
       done = run.done ++ went.text;
-      wrote = Appends-trans a b c run.done went.text run.wrote went.wrote;
+      wrote = Appends-trans a.told b.told c.told run.done went.text run.wrote went.wrote;
       same = run.same ∙ ap (after_text run.done) turned
           ∙ ap (λ l. let e = lines_end (number + 1) next (lines more) in let p : ScriptEnd = record e { text = l } in p) (sym (append_assoc run.done went.text (lines_end (number + 1) next (lines more)).text));
       later = omega (arith, run.later, later);
-      early = omega (arith, went.early);
+      counted = omega (arith, run.counted, shorter);
     }
 
-ended-after : (a b c : Option (List ℕ)) (o m n : ℕ) (done text : List ℕ) (status : ℕ) (r : LinesEnd) → o ≤ m → Appends a b done → LinesEnded b c m n text status r
-    → LinesEnded a c o n (done ++ text) status r
-ended-after a b c o m n done text status end.Whole later first h = (Appends-trans a b c done text first h.0, h.1)
-ended-after a b c o m n done text status end.BadLine later first h = (Appends-trans a b c done text first h.0, h.1)
-ended-after a b c o m n done text status end.WriteFault later first h = (after a b c done text first h.0, omega (arith, later, h.1))
-ended-after a b c o m n done text status end.Memory later first h = after a b c done text first h
+ended-after : (a b c : Seen (Option (List ℕ))) (done : List ℕ) (end : ScriptEnd) (f : Failure) → a.faults ≤ b.faults → Appends a.told b.told done → LinesEnded b c end (Err f)
+    → LinesEnded a c (after_text done end) (Err f)
+ended-after a b c done end Usage later first h = absurd h
+ended-after a b c done end BadLine later first h = (Appends-trans a.told b.told c.told done end.text first h.0, h.1)
+ended-after a b c done end ReadFault later first h = absurd h
+ended-after a b c done end WriteFault later first h = (after a.told b.told c.told done end.text first h.0, omega (arith, later, h.1))
+ended-after a b c done end Memory later first h = after a.told b.told c.told done end.text first h
+ended-after a b c done end TooLong later first h = absurd h
 
-pub has_run-ends : (bytes rest more line : List ℕ) (first now : ScriptState) (number : ℕ) (a b c : Option (List ℕ)) (o m n : ℕ) (r : LinesEnd)
-    → HasRun bytes rest first now number a b o m → lines rest ≡ line ∷ lines more → EndedAt number now line b c m n r
-    → LinesEnded a c o n (lines_end 1 first (lines bytes)).text (lines_end 1 first (lines bytes)).status r
-has_run-ends bytes rest more line first now number a b c o m n r run cut h =
-    let tail = turn_end number now (line_turn number now line) (λ s. lines_end (number + 1) s (lines more)) in
+pub has_run-ends : (bytes rest more line : List ℕ) (first now : ScriptState) (number : ℕ) (a b c : Seen (Option (List ℕ))) (f : Failure) → HasRun bytes rest first now number a b
+    → lines rest ≡ line ∷ lines more → EndedAt number now line b c f → LinesEnded a c (lines_end 1 first (lines bytes)) (Err f)
+has_run-ends bytes rest more line first now number a b c f run cut h =
+    let tail = turn_end number now (line_turn now line) (λ s. lines_end (number + 1) s (lines more)) in
     let whole : lines_end 1 first (lines bytes) ≡ after_text run.done tail = run.same ∙ ap (λ l. after_text run.done (lines_end number now l)) cut in
-    let P : ScriptEnd → Type 0 = λ e. LinesEnded a c o n e.text e.status r in
-    subst P (sym whole) (ended-after a b c o m n run.done tail.text tail.status r run.later run.wrote (h (λ s. lines_end (number + 1) s (lines more))))
+    let P : ScriptEnd → Type 0 = λ e. LinesEnded a c e (Err f) in
+    subst P (sym whole) (ended-after a b c run.done tail f run.later run.wrote (h (λ s. lines_end (number + 1) s (lines more))))
 
-pub has_run-whole : (bytes rest : List ℕ) (first now : ScriptState) (number : ℕ) (a b : Option (List ℕ)) (o n : ℕ)
-    → HasRun bytes rest first now number a b o n → lines rest ≡ [] → LinesEnded a b o n (lines_end 1 first (lines bytes)).text (lines_end 1 first (lines bytes)).status end.Whole
-has_run-whole bytes rest first now number a b o n run none =
+pub has_run-whole : (bytes rest : List ℕ) (first now : ScriptState) (number : ℕ) (a b : Seen (Option (List ℕ))) → HasRun bytes rest first now number a b → lines rest ≡ []
+    → LinesEnded a b (lines_end 1 first (lines bytes)) (Ok tt)
+has_run-whole bytes rest first now number a b run none =
     let whole : lines_end 1 first (lines bytes) ≡ after_text run.done (lines_end number now []) = run.same ∙ ap (λ l. after_text run.done (lines_end number now l)) none in
-    let P : ScriptEnd → Type 0 = λ e. LinesEnded a b o n e.text e.status end.Whole in
-    subst P (sym whole) (subst (Appends a b) (sym (append-nil run.done)) run.wrote, refl)
-
--- a script within its limit has the lines of its bytes
-pub short-script : (options : Options) (bytes : List ℕ) → length bytes ≤ SCRIPT_MOST
-    → script_with (Some options) bytes ≡ lines_end 1 (first_state options) (lines bytes)
-short-script options bytes fits =
-    let is : ltb SCRIPT_MOST (length bytes) ≡ false = grind (arith, nat_tests) in
-    ap (λ b. cond b (no_script TOO_LONG) (lines_end 1 (first_state options) (lines bytes))) is
-
--- what a script leaves whose input could not be read
-pub input-ends : (options : Options) (s : Streams) (error : InputError) → ExplainsInput s.left s.left_now s.reads s.reads_now error → Keeps s.written s.written_now
-    → EndsAs (Some options) s (end_of_input error)
-input-ends options s input.Failed h kept = (refl, h, kept)
-input-ends options s input.TooLong h kept = (refl, h, kept)
-input-ends options s input.Memory h kept =
-    let turn : (o : Option (List ℕ)) → IfSome o (λ bytes. WroteFront s.written s.written_now (script_with (Some options) bytes).text) =
-    λ o. elim o as (λ q. IfSome q (λ bytes. WroteFront s.written s.written_now (script_with (Some options) bytes).text)) [
-      | None ↦ tt
-      | Some bytes ↦ wrote_nothing s.written s.written_now (script_with (Some options) bytes).text kept
-    ] in
-    (refl, turn s.left)
-
--- what a script leaves that was read whole
-pub whole-ends : (options : Options) (s : Streams) (bytes : List ℕ) (r : LinesEnd) → IsWholeInput s.left s.left_now bytes
-    → LinesEnded s.written s.written_now s.writes s.writes_now (script_with (Some options) bytes).text (script_with (Some options) bytes).status r → EndsAs (Some options) s (end_of_lines r)
-whole-ends options s bytes end.Whole whole h = (refl, Consumes-whole s.left s.left_now bytes _ whole.read whole.at_end h, whole.at_end)
-whole-ends options s bytes end.BadLine whole h = (refl, Consumes-whole s.left s.left_now bytes _ whole.read whole.at_end h, whole.at_end)
-whole-ends options s bytes end.WriteFault whole h =
-    (refl, h.1, Consumes-whole s.left s.left_now bytes (λ b. length b ≤ SCRIPT_MOST) whole.read whole.at_end whole.fits, Consumes-whole s.left s.left_now bytes _ whole.read whole.at_end h.0)
-whole-ends options s bytes end.Memory whole h = (refl, Consumes-whole s.left s.left_now bytes _ whole.read whole.at_end h)
-
--- what the lines of a script left, the script left
-pub bytes-end : (options : Options) (bytes : List ℕ) (s : ScriptState) (a b : Option (List ℕ)) (o n : ℕ) (r : LinesEnd) → length bytes ≤ SCRIPT_MOST
-    → s ≡ first_state options
-    → LinesEnded a b o n (lines_end 1 s (lines bytes)).text (lines_end 1 s (lines bytes)).status r
-    → LinesEnded a b o n (script_with (Some options) bytes).text (script_with (Some options) bytes).status r
-bytes-end options bytes s a b o n r fits start h =
-    let P : ScriptEnd → Type 0 = λ e. LinesEnded a b o n e.text e.status r in
-    subst P (ap (λ t. lines_end 1 t (lines bytes)) start ∙ sym (short-script options bytes fits)) h
+    let P : ScriptEnd → Type 0 = λ e. LinesEnded a b e (Ok tt) in
+    subst P (sym whole) (subst (Appends a.told b.told) (sym (append-nil run.done)) run.wrote, refl)

@@ -16,27 +16,29 @@ use Rattle.rm_base.specs.declared.reply.Reply.TheVariants as reply
 use Rattle.rm_base.specs.declared.statement.Statement.{Statement}
 use Rattle.rm_base.specs.Definitions.{fresh}
 use Rattle.rm_base.specs.WellFormed.{IsWellFormed}
+use Rattle.rm_outside.specs.Stored.{StoredRows}
 use Rattle.rm_rules.specs.State.{State}
 use Rattle.rm_rules.specs.Acceptance.{accepted, is_judged}
 use Rattle.rm_rules.specs.Step.{step}
 use Rattle.rm_rules.specs.Replay.{replay, IsFormed, IsLegal}
-use Rattle.rm_rules.specs.Conserved.{ConservedAfterEach}
 use Rattle.rm_rules.proofs.Laws.{legal-step, replay-step, conserved-after-each, fresh-sound, healthy-start}
 use Rattle.rm_rules.proofs.Histories.{bytes-from}
 use Rattle.sessions.specs.declared.options.Options.{Options}
-use Rattle.sessions.specs.Commands.{Command, At, Sql, Open, SetPool, Ask, Poll, Done, command_of}
+use Rattle.sessions.specs.Commands.{Request, SetPool, Ask, Poll, Done, Close, Command, At, Sql, Open, Of, command_of}
 use Rattle.sessions.specs.Options.{options_of}
-use Rattle.sessions.specs.Script.{ScriptState, Turn, Bad, Goes, judged_turn, read_turn, with_name, chosen_turn, opened_turn, opening_turn, set_pool_turn, ask_turn, poll_turn, done_turn, turn, command_turn, line_turn, is_comment, ScriptEnd, turn_end, lines_end, no_script, script_start, first_state, script_with, script, IsOneHistory}
+use Rattle.sessions.specs.Script.{command_turn, line_turn, is_comment, ScriptEnd, turn_end, lines_end, no_script, script_start, first_state, script_with, script, IsOneHistory}
+use Rattle.sessions.specs.Turns.{ScriptState, Turn, Bad, Goes, Stops, judged_turn, read_turn, with_name, chosen_turn, opened_turn, opening_turn, after_close, close_turn, request_turn, session_turn, turn}
 use Rattle.sessions.specs.SessionNames.{session_named}
 use Rattle.sessions.proofs.OptionsLaws.{options-within}
 
 -- a fact of the machine that a turn leaves, where it leaves one
-abbrev OnGoes : (State → Type 0) → Turn → Type 0
-OnGoes P Bad = Unit {0}
-OnGoes P (Goes text s) = P s.machine
+abbrev OnTurn : (State → Type 0) → Turn → Type 0
+OnTurn P Bad = Unit {0}
+OnTurn P (Goes text s) = P s.machine
+OnTurn P (Stops text status s) = P s.machine
 
 -- what a choice between a bad line and a turn keeps
-bad_or : (P : State → Type 0) (b : Bool) (t : Turn) → OnGoes P t → OnGoes P (cond b Bad t)
+bad_or : (P : State → Type 0) (b : Bool) (t : Turn) → OnTurn P t → OnTurn P (cond b Bad t)
 bad_or P true t h = tt
 bad_or P false t h = h
 
@@ -46,81 +48,83 @@ IsKeptByCalls P = (m : State) (at : ℕ) (e : Event) → IsFormed e → P m → 
 
 -- what each machine call keeps, each turn keeps
 judged : (P : State → Type 0) → IsKeptByCalls P → (s : ScriptState) (statement : Statement) → IsFormed (event.Define statement) → (r : Result Definitions Refusal)
-    → P s.machine → OnGoes P (judged_turn s statement r)
+    → P s.machine → OnTurn P (judged_turn s statement r)
 judged P each s statement formed (Err refusal) h = h
 judged P each s statement formed (Ok d) h = each s.machine s.moment (event.Define statement) formed h
 
 states : (P : State → Type 0) → IsKeptByCalls P → (s : ScriptState) (statement : Statement) → IsWellFormed statement → (b : Bool) → is_judged statement ≡ b
-    → P s.machine → OnGoes P (cond b (judged_turn s statement (accepted s.machine.definitions statement)) Bad)
+    → P s.machine → OnTurn P (cond b (judged_turn s statement (accepted s.machine.definitions statement)) Bad)
 states P each s statement ranged true is h = judged P each s statement (is, ranged) (accepted s.machine.definitions statement) h
 states P each s statement ranged false is h = tt
 
 reads : (P : State → Type 0) → IsKeptByCalls P → (s : ScriptState) (r : Result Statement Refusal) → ((statement : Statement) → r ≡ Ok statement → IsWellFormed statement)
-    → P s.machine → OnGoes P (read_turn s r)
+    → P s.machine → OnTurn P (read_turn s r)
 reads P each s (Err refusal) ranged h = h
 reads P each s (Ok statement) ranged h = states P each s statement (ranged statement refl) (is_judged statement) refl h
 
-chooses : (P : State → Type 0) → IsKeptByCalls P → (s : ScriptState) (session : Name) (number : ℕ) (pool : Option Name) → P s.machine → OnGoes P (chosen_turn s session number pool)
+chooses : (P : State → Type 0) → IsKeptByCalls P → (s : ScriptState) (session : Name) (number : ℕ) (pool : Option Name) → P s.machine → OnTurn P (chosen_turn s session number pool)
 chooses P each s session number None h = h
 chooses P each s session number (Some pool) h = each s.machine s.moment (event.SetPool number pool) tt h
 
-follows_open : (P : State → Type 0) → IsKeptByCalls P → (s : ScriptState) (session : Name) (pool : Option Name) (r : Reply) → P s.machine → OnGoes P (opened_turn s session pool r)
+follows_open : (P : State → Type 0) → IsKeptByCalls P → (s : ScriptState) (session : Name) (pool : Option Name) (r : Reply) → P s.machine → OnTurn P (opened_turn s session pool r)
 follows_open P each s session pool (reply.Opened number) h = chooses P each (with_name s session number) session number pool h
 follows_open P each s session pool _ h = h
 
-opens : (P : State → Type 0) → IsKeptByCalls P → (s : ScriptState) (session user : Name) (pool : Option Name) → P s.machine → OnGoes P (opening_turn s session user pool)
+opens : (P : State → Type 0) → IsKeptByCalls P → (s : ScriptState) (session user : Name) (pool : Option Name) → P s.machine → OnTurn P (opening_turn s session user pool)
 opens P each s session user pool h =
     let o = step s.machine 0 s.moment (event.Open user) in
     follows_open P each (record s { machine = o.state }) session pool o.reply (each s.machine s.moment (event.Open user) tt h)
 
-sets_pool : (P : State → Type 0) → IsKeptByCalls P → (s : ScriptState) (session pool : Name) (o : Option ℕ) → P s.machine → OnGoes P (set_pool_turn s session pool o)
-sets_pool P each s session pool None h = tt
-sets_pool P each s session pool (Some n) h = each s.machine s.moment (event.SetPool n pool) tt h
+after_close-machine : (s : ScriptState) (session : Name) (r : Reply) → (after_close s session r).machine ≡ s.machine
+after_close-machine s session reply.Closed = refl
+after_close-machine s session _ = refl
 
-asks : (P : State → Type 0) → IsKeptByCalls P → (s : ScriptState) (session : Name) (floor : ℕ) (o : Option ℕ) → P s.machine → OnGoes P (ask_turn s session floor o)
-asks P each s session floor None h = tt
-asks P each s session floor (Some n) h = each s.machine s.moment (event.Submit n floor) tt h
+closes : (P : State → Type 0) → IsKeptByCalls P → (s : ScriptState) (session : Name) (number : ℕ) → P s.machine → OnTurn P (close_turn s session number)
+closes P each s session number h =
+    let o = step s.machine 0 s.moment (event.Close number) in
+    subst P (sym (after_close-machine (record s { machine = o.state }) session o.reply)) (each s.machine s.moment (event.Close number) tt h)
 
-polls : (P : State → Type 0) → IsKeptByCalls P → (s : ScriptState) (session : Name) (o : Option ℕ) → P s.machine → OnGoes P (poll_turn s session o)
-polls P each s session None h = tt
-polls P each s session (Some n) h = each s.machine s.moment (event.Poll n) tt h
+requests : (P : State → Type 0) → IsKeptByCalls P → (s : ScriptState) (session : Name) (number : ℕ) (r : Request) → P s.machine → OnTurn P (request_turn s session number r)
+requests P each s session number (SetPool pool) h = each s.machine s.moment (event.SetPool number pool) tt h
+requests P each s session number (Ask floor) h = each s.machine s.moment (event.Submit number floor) tt h
+requests P each s session number Poll h = each s.machine s.moment (event.Poll number) tt h
+requests P each s session number Done h = each s.machine s.moment (event.Finish number) tt h
+requests P each s session number Close h = closes P each s session number h
 
-ends : (P : State → Type 0) → IsKeptByCalls P → (s : ScriptState) (session : Name) (o : Option ℕ) → P s.machine → OnGoes P (done_turn s session o)
-ends P each s session None h = tt
-ends P each s session (Some n) h = each s.machine s.moment (event.Finish n) tt h
+for_session : (P : State → Type 0) → IsKeptByCalls P → (s : ScriptState) (session : Name) (r : Request) (o : Option ℕ) → P s.machine → OnTurn P (session_turn s session r o)
+for_session P each s session r None h = tt
+for_session P each s session r (Some number) h = requests P each s session number r h
 
-turn_keeps : (P : State → Type 0) → IsKeptByCalls P → (s : ScriptState) (c : Command) → P s.machine → OnGoes P (turn s c)
+turn_keeps : (P : State → Type 0) → IsKeptByCalls P → (s : ScriptState) (c : Command) → P s.machine → OnTurn P (turn s c)
 turn_keeps P each s (At moment) h = bad_or P _ (Goes [] (record s { moment = moment })) h
 turn_keeps P each s (Sql text) h = reads P each s (read_of text) (λ st is. spells-well_formed text st ((read_of-spells text st).0 is)) h
 turn_keeps P each s (Open session user pool) h = bad_or P _ (opening_turn s session user pool) (opens P each s session user pool h)
-turn_keeps P each s (SetPool session pool) h = sets_pool P each s session pool (session_named s.names session) h
-turn_keeps P each s (Ask session floor) h = asks P each s session floor (session_named s.names session) h
-turn_keeps P each s (Poll session) h = polls P each s session (session_named s.names session) h
-turn_keeps P each s (Done session) h = ends P each s session (session_named s.names session) h
+turn_keeps P each s (Of session r) h = for_session P each s session r (session_named s.names session) h
 
-command_keeps : (P : State → Type 0) → IsKeptByCalls P → (s : ScriptState) (o : Option Command) → P s.machine → OnGoes P (command_turn s o)
+command_keeps : (P : State → Type 0) → IsKeptByCalls P → (s : ScriptState) (o : Option Command) → P s.machine → OnTurn P (command_turn s o)
 command_keeps P each s None h = tt
 command_keeps P each s (Some c) h = turn_keeps P each s c h
 
-line_keeps : (P : State → Type 0) → IsKeptByCalls P → (n : ℕ) (s : ScriptState) (line : List ℕ) → P s.machine → OnGoes P (line_turn n s line)
-line_keeps P each n s line h =
+line_keeps : (P : State → Type 0) → IsKeptByCalls P → (s : ScriptState) (line : List ℕ) → P s.machine → OnTurn P (line_turn s line)
+line_keeps P each s line h =
     bad_or P _ (cond (is_comment line) (Goes [] s) (command_turn s (command_of line)))
-    (elim (is_comment line) as (λ b. OnGoes P (cond b (Goes [] s) (command_turn s (command_of line)))) [
+    (elim (is_comment line) as (λ b. OnTurn P (cond b (Goes [] s) (command_turn s (command_of line)))) [
       | true ↦ h
       | false ↦ command_keeps P each s (command_of line) h
     ])
 
 -- what each machine call keeps holds of the journal with which the lines end
 turn_end-keeps : (P : State → Type 0) (J : List Entry → Type 0) → ((m : State) → P m → J m.journal) → (n : ℕ) (s : ScriptState) (t : Turn) (next : ScriptState → ScriptEnd)
-    → P s.machine → OnGoes P t → ((s' : ScriptState) → P s'.machine → J (next s').journal) → J (turn_end n s t next).journal
+    → P s.machine → OnTurn P t → ((s' : ScriptState) → P s'.machine → J (next s').journal) → J (turn_end n s t next).journal
 turn_end-keeps P J tells n s Bad next h k more = tells s.machine h
 turn_end-keeps P J tells n s (Goes text s') next h k more = more s' k
+turn_end-keeps P J tells n s (Stops text status s') next h k more = tells s'.machine k
 
 lines_end-keeps : (P : State → Type 0) (J : List Entry → Type 0) → ((m : State) → P m → J m.journal) → IsKeptByCalls P
     → (n : ℕ) (s : ScriptState) (lines : List (List ℕ)) → P s.machine → J (lines_end n s lines).journal
 lines_end-keeps P J tells each n s [] h = tells s.machine h
 lines_end-keeps P J tells each n s (line ∷ more) h =
-    turn_end-keeps P J tells n s (line_turn n s line) (λ next. lines_end (n + 1) next more) h (line_keeps P each n s line h)
+    turn_end-keeps P J tells n s (line_turn s line) (λ next. lines_end (n + 1) next more) h (line_keeps P each s line h)
     (λ s' k. lines_end-keeps P J tells each (n + 1) s' more k)
 
 -- the machine's journal is legal, and leads to the machine
@@ -136,23 +140,25 @@ legal-lines first n s lines h =
     lines_end-keeps (IsHistory first) (IsLegal first) (λ m k. k.legal) (history-step first) n s lines h
 
 -- the journal of a script is a legal history from its first state
-legal : (o : Options) (bytes : List ℕ) → IsLegal (script_start o) (script_with (Some o) bytes).journal
-legal o bytes =
+legal : (o : Options) (bytes : List ℕ) (files : List ℕ → Option (List ℕ)) (stored : StoredRows) → IsLegal (script_start o) (script_with (Some o) bytes files stored).journal
+legal o bytes files stored =
     elim (ltb SCRIPT_MOST (length bytes)) as (λ b. IsLegal (script_start o) (cond b (no_script TOO_LONG) (lines_end 1 (first_state o) (lines bytes))).journal) [
       | true ↦ tt
       | false ↦ legal-lines (script_start o) 1 (first_state o) (lines bytes) (record { legal = tt; replays = refl })
     ]
 
 -- the headline, for scripts: what every legal history from sound definitions keeps, a script's does
-pub one_history : (words : List (List ℕ)) (bytes : List ℕ) (o : Options) → options_of words ≡ Some o → IsOneHistory o (script words bytes)
-one_history words bytes o h =
+pub one_history : (words : List (List ℕ)) (bytes : List ℕ) (files : List ℕ → Option (List ℕ)) (stored : StoredRows) (o : Options) → options_of words ≡ Some o
+    → IsOneHistory o (script words bytes files stored)
+one_history words bytes files stored o h =
     let d = fresh o.memory o.cores in
     let w = options-within words o h in
     let sound = fresh-sound o.memory o.cores w.memory_least w.memory_most w.cores_least w.cores_most in
-    let entries = (script_with (Some o) bytes).journal in
-    let is : IsOneHistory o (script_with (Some o) bytes) = record {
-      legal = legal o bytes;
-      conserved = conserved-after-each d SCRIPT_ROOM entries sound (legal o bytes);
-      kept = bytes-from (script_start o) entries (legal o bytes) (healthy-start d SCRIPT_ROOM sound);
+    let entries = (script_with (Some o) bytes files stored).journal in
+    let all_legal = legal o bytes files stored in
+    let is : IsOneHistory o (script_with (Some o) bytes files stored) = record {
+      legal = all_legal;
+      conserved = conserved-after-each d SCRIPT_ROOM entries sound all_legal;
+      kept = bytes-from (script_start o) entries all_legal (healthy-start d SCRIPT_ROOM sound);
     } in
-    subst (λ (q : Option Options). IsOneHistory o (script_with q bytes)) (sym h) is
+    subst (λ (q : Option Options). IsOneHistory o (script_with q bytes files stored)) (sym h) is

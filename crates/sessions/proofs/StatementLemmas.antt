@@ -7,7 +7,7 @@ use Rattle.rm_base.specs.declared.event.Event.TheVariants as event
 use Rattle.rm_base.specs.declared.refusal.Refusal.{Refusal}
 use Rattle.rm_base.specs.declared.statement.Statement.{Statement}
 use Rattle.rm_rules.specs.Acceptance.{accepted, is_judged}
-use Rattle.sessions.specs.Script.{ScriptState, Bad, called, judged_turn, statement_turn}
+use Rattle.sessions.specs.Turns.{ScriptState, Bad, called, judged_turn, statement_turn}
 use Rattle.sessions.specs.Texts.{bare_text}
 
 judged-ok : (s : ScriptState) (statement : Statement) (r : Result Definitions Refusal) → IsOk r → judged_turn s statement r ≡ called s (event.Define statement) bare_text

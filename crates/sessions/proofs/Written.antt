@@ -1,10 +1,14 @@
 -- What was written of a text, part by part.
-use Rattle.std.proofs.Common.{◌≡◌, ℕ, ◌+◌, ◌-◌, ◌≤◌, List, length, take, drop, Option, Some, None, sym, ◌∙◌, subst, arith}
+use Rattle.std.proofs.Common.{◌≡◌, ℕ, ◌+◌, ◌-◌, ◌≤◌, List, length, take, drop, Option, refl, sym, subst, arith}
 use Rattle.std.specs.Io.KnownBytes.{Appends, Keeps}
 use Rattle.std.proofs.KnownBytes.{Appends-trans, Appends-kept}
 use Rattle.std.proofs.Math.Seq.{take-add}
 use Rattle.std.proofs.lemmas.List.{take_all, length-drop, take-append-drop}
-use Rattle.sessions.specs.Transfers.{WroteFront}
+use Rattle.rm_outside.specs.declared.outside.Outside.{Outside}
+use Rattle.rm_outside.specs.declared.outside.Outside.TheVariants as outside
+use Rattle.sessions.specs.Failures.{write_failure}
+use Rattle.sessions.specs.Transfers.{WroteFront, ExplainsOutput}
+use Rattle.sessions.specs.World.{Seen, HasFailed}
 
 rest_whole : (at : ℕ) (text : List ℕ) → take (length text - at) (drop at text) ≡ drop at text
 rest_whole at text = take_all (length text - at) (drop at text) (omega (arith, length-drop at text))
@@ -23,3 +27,9 @@ wrote_all a b text at all p = subst (Appends a b) (take_all at text all) p
 pub wrote_front : (a b c : Option (List ℕ)) (text : List ℕ) (at : ℕ) → Appends a b (take at text) → Keeps b c → WroteFront a c text
 wrote_front a b c text at p q =
     record { front = take at text; rest = drop at text; split = sym (take-append-drop at text); wrote = Appends-kept a b c (take at text) p q }
+
+-- the front was written, and the sink says why no more
+pub explained : (old new : Seen (Option (List ℕ))) (text : List ℕ) (error : Outside) → WroteFront old.told new.told text → (error ≡ outside.Failed → HasFailed old new)
+    → ExplainsOutput old new text (write_failure error)
+explained old new text outside.Failed wrote failed = (wrote, failed refl)
+explained old new text outside.Memory wrote failed = wrote

@@ -1,71 +1,76 @@
 -- How a script ends, and what its end leaves.
-use Rattle.std.specs.Prelude.{◌≡◌, ◌≤◌, ℕ, length, List, Option, None, IsSome, IfSome}
+use Rattle.std.specs.Prelude.{◌≡◌, ◌≢◌, ◌<◌, ◌≤◌, ◌↔◌, ◌⊎◌, ℕ, length, List, Option, Some, None, IsSome, IfSome, Result, Ok, Err}
 use Rattle.std.specs.Io.KnownBytes.{Appends, Keeps, IsAtEnd}
 use Rattle.rm_base.specs.declared.limits.TheConstants.{SCRIPT_MOST}
-use Rattle.rm_outside.specs.Faults.{Rose}
-use Rattle.sessions.specs.declared.ended.Ended.{Ended}
-use Rattle.sessions.specs.declared.ended.Ended.TheVariants as ended
-use Rattle.sessions.specs.declared.input.InputError.{InputError}
-use Rattle.sessions.specs.declared.input.InputError.TheVariants as input
+use Rattle.rm_outside.specs.Stored.{StoredRows}
+use Rattle.sessions.specs.declared.failure.Failure.{Failure}
+use Rattle.sessions.specs.declared.failure.Failure.TheVariants.{Usage, BadLine, ReadFault, WriteFault, Memory, TooLong}
 use Rattle.sessions.specs.declared.options.Options.{Options}
-use Rattle.sessions.specs.declared.ended.LinesEnd.{LinesEnd}
-use Rattle.sessions.specs.declared.ended.LinesEnd.TheVariants as lines_end
 use Rattle.sessions.specs.declared.status.TheConstants.{DONE, USAGE, BAD_LINE, READ_FAULT, WRITE_FAULT, NO_MEMORY, TOO_LONG}
-use Rattle.sessions.specs.Script.{script_with}
-use Rattle.sessions.specs.Transfers.{IsTooLong, WroteFront}
+use Rattle.sessions.specs.Options.{options_of}
+use Rattle.sessions.specs.Script.{ScriptEnd, script_with, script, IsOneHistory}
+use Rattle.sessions.specs.Transfers.{ReadFront, IsTooLong, WroteFront}
+use Rattle.sessions.specs.World.{World, HasFailed, CountsNoFault, IsGiven}
 
--- the status of an end
-abbrev pub status_of : Ended → ℕ
-status_of ended.Done = DONE
-status_of ended.Usage = USAGE
-status_of ended.BadLine = BAD_LINE
-status_of ended.ReadFault = READ_FAULT
-status_of ended.WriteFault = WRITE_FAULT
-status_of ended.Memory = NO_MEMORY
-status_of ended.TooLong = TOO_LONG
+-- a script whose words are read: how it ends, by its bytes, the files and the stored rows
+abbrev pub Scripted : Type 0
+Scripted = List ℕ → (List ℕ → Option (List ℕ)) → StoredRows → ScriptEnd
 
--- how a script ends whose lines end so
-abbrev pub end_of_lines : LinesEnd → Ended
-end_of_lines lines_end.Whole = ended.Done
-end_of_lines lines_end.BadLine = ended.BadLine
-end_of_lines lines_end.WriteFault = ended.WriteFault
-end_of_lines lines_end.Memory = ended.Memory
+-- what holds of how a script ends, over what the world gives it
+abbrev pub OfScript : Scripted → World → (ScriptEnd → Type 0) → Type 0
+OfScript script world P =
+    (bytes : List ℕ) (files : List ℕ → Option (List ℕ)) (stored : StoredRows) → IsGiven world bytes files stored → P (script bytes files stored)
 
--- how a script ends that could not be read
-abbrev pub end_of_input : InputError → Ended
-end_of_input input.Failed = ended.ReadFault
-end_of_input input.TooLong = ended.TooLong
-end_of_input input.Memory = ended.Memory
+-- the whole text of the script was written, which ends with this status
+abbrev pub WroteWhole : Scripted → World → World → ℕ → Type 0
+WroteWhole script old new status = OfScript script old (λ end. Appends old.output.told new.output.told end.text × (end.status ≡ status))
 
--- the input and the output, before a script and after it: the bytes left, the bytes written, and the counts of faults
-pub record Streams : Type 0 where
-  pub left : Option (List ℕ)
-  pub left_now : Option (List ℕ)
-  pub reads : ℕ
-  pub reads_now : ℕ
-  pub written : Option (List ℕ)
-  pub written_now : Option (List ℕ)
-  pub writes : ℕ
-  pub writes_now : ℕ
+-- the front of the script's text was written, and no more
+abbrev pub WrotePart : Scripted → World → World → Type 0
+WrotePart script old new = OfScript script old (λ end. WroteFront old.output.told new.output.told end.text)
 
--- the whole text of a script was written
-abbrev pub WroteWhole : Option Options → Streams → ℕ → Type 0
-WroteWhole options s status = IfSome s.left (λ bytes. Appends s.written s.written_now (script_with options bytes).text × ((script_with options bytes).status ≡ status))
+-- nothing was written
+abbrev pub WroteNothing : World → World → Type 0
+WroteNothing old new = Keeps old.output.told new.output.told
 
--- the front of a script's text was written, and no more
-abbrev pub WrotePart : Option Options → Streams → Type 0
-WrotePart options s = IfSome s.left (λ bytes. WroteFront s.written s.written_now (script_with options bytes).text)
+-- the input is no longer than a script may be
+abbrev pub IsShort : World → Type 0
+IsShort old = IfSome old.input.told (λ bytes. length bytes ≤ SCRIPT_MOST)
 
--- the script is no longer than a script may be
-abbrev pub IsShort : Streams → Type 0
-IsShort s = IfSome s.left (λ bytes. length bytes ≤ SCRIPT_MOST)
+-- the script was read to its end, and its lines were run
+pub record HasRunLines (options : Option Options) (old new : World) : Type 0 where
+  pub known : IsSome options
+  pub read : IsAtEnd new.input.told
+  pub short : IsShort old
 
--- what a script with these options, or with none, leaves where it ends so
-abbrev pub EndsAs : Option Options → Streams → Ended → Type 0
-EndsAs options s ended.Done = IsSome options × WroteWhole options s DONE × IsAtEnd s.left_now
-EndsAs options s ended.Usage = (options ≡ None) × Keeps s.written s.written_now
-EndsAs options s ended.BadLine = IsSome options × WroteWhole options s BAD_LINE × IsAtEnd s.left_now
-EndsAs options s ended.ReadFault = IsSome options × Rose s.reads s.reads_now × Keeps s.written s.written_now
-EndsAs options s ended.WriteFault = IsSome options × Rose s.writes s.writes_now × IsShort s × WrotePart options s
-EndsAs options s ended.Memory = IsSome options × WrotePart options s
-EndsAs options s ended.TooLong = IsSome options × IsTooLong s.left s.left_now × Keeps s.written s.written_now
+-- what a script with these options, or with none, leaves that ends so
+abbrev pub EndsAs : Option Options → World → World → Result (Unit {0}) Failure → Type 0
+EndsAs options old new (Ok done) = HasRunLines options old new × WroteWhole (script_with options) old new DONE
+EndsAs options old new (Err Usage) = (options ≡ None) × WroteNothing old new
+EndsAs options old new (Err BadLine) = HasRunLines options old new × WroteWhole (script_with options) old new BAD_LINE
+EndsAs options old new (Err ReadFault) = IsSome options × WroteNothing old new × HasFailed old.input new.input
+EndsAs options old new (Err WriteFault) = HasRunLines options old new × WrotePart (script_with options) old new × HasFailed old.output new.output
+EndsAs options old new (Err Memory) = IsSome options × WrotePart (script_with options) old new
+EndsAs options old new (Err TooLong) = IsSome options × WroteNothing old new × IsTooLong old.input.told new.input.told
+
+-- what the run of a script leaves, by the words of the command line and its status
+pub record IsRun (words : List (List ℕ)) (old new : World) (status : ℕ) : Type 0 where
+  -- where no fault was counted and memory was not wanting, the text and the status are the script's
+  pub exact : CountsNoFault old new → status ≢ NO_MEMORY → WroteWhole (script words) old new status
+  -- the script's journal is one legal history of the machine, and the bytes add up after each of its entries
+  pub one_history : (options : Options) → options_of words ≡ Some options → OfScript (script words) old (IsOneHistory options)
+  -- when each status comes
+  pub usage : (status ≡ USAGE) ↔ (options_of words ≡ None)
+  pub read_fault : status ≡ READ_FAULT → HasFailed old.input new.input
+  pub write_fault : status ≡ WRITE_FAULT → HasFailed old.output new.output
+  pub too_long : status ≡ TOO_LONG → IsTooLong old.input.told new.input.told
+  pub never_run : IfSome old.input.told (λ bytes. SCRIPT_MOST < length bytes
+      → (status ≡ USAGE) ⊎ ((status ≡ READ_FAULT) ⊎ ((status ≡ NO_MEMORY) ⊎ (status ≡ TOO_LONG))))
+  pub known : (status ≡ DONE) ⊎ ((status ≡ USAGE) ⊎ ((status ≡ BAD_LINE) ⊎ ((status ≡ READ_FAULT) ⊎ ((status ≡ WRITE_FAULT) ⊎ ((status ≡ NO_MEMORY) ⊎ (status ≡ TOO_LONG))))))
+  -- what was read: at most one byte more than a script may have, and all of it where the script has run
+  pub reads : ReadFront old.input.told new.input.told
+  pub read_whole : (status ≡ DONE) ⊎ (status ≡ BAD_LINE) → IsAtEnd new.input.told
+  -- what was written, whatever was counted
+  pub own : (status ≡ DONE) ⊎ (status ≡ BAD_LINE) → WroteWhole (script words) old new status
+  pub nothing : (status ≡ USAGE) ⊎ ((status ≡ READ_FAULT) ⊎ (status ≡ TOO_LONG)) → WroteNothing old new
+  pub front : (status ≡ WRITE_FAULT) ⊎ (status ≡ NO_MEMORY) → WrotePart (script words) old new

@@ -1,8 +1,19 @@
-use Rattle.std.specs.Prelude.{ℕ, List, Option, option_map, find}
+-- The script's names of its sessions.
+use Rattle.std.specs.Prelude.{ℕ, Bool, List, Option, option_map, find}
+use Rattle.std.specs.List.{list_any}
 use Rattle.rm_base.specs.declared.name.Name.{Name}
 use Rattle.rm_base.specs.Name.{same_name}
+use Rattle.rm_rules.specs.State.{without}
 use Rattle.sessions.specs.declared.names.Named.{Named}
+
+-- some session has this name
+abbrev pub is_used : List Named → Name → Bool
+is_used names name = list_any (λ n. same_name n.name name) names
 
 -- the session that has this name
 abbrev pub session_named : List Named → Name → Option ℕ
 session_named names name = option_map (λ n. n.session) (find (λ n. same_name n.name name) names)
+
+-- the names without the first that is this one
+abbrev pub without_name : Name → List Named → List Named
+without_name name names = without (λ n. same_name n.name name) names

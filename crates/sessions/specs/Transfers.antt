@@ -2,11 +2,9 @@
 use Rattle.std.specs.Prelude.{◌≡◌, ℕ, ◌+◌, ◌≤◌, List, ◌++◌, length, Option}
 use Rattle.std.specs.Io.KnownBytes.{Appends, Consumes, IsAtEnd}
 use Rattle.rm_base.specs.declared.limits.TheConstants.{SCRIPT_MOST}
-use Rattle.rm_outside.specs.Faults.{Rose}
-use Rattle.sessions.specs.declared.input.InputError.{InputError}
-use Rattle.sessions.specs.declared.input.InputError.TheVariants as input
-use Rattle.rm_outside.specs.declared.outside.Outside.{Outside}
-use Rattle.rm_outside.specs.declared.outside.Outside.TheVariants as outside
+use Rattle.sessions.specs.declared.failure.Failure.{Failure}
+use Rattle.sessions.specs.declared.failure.Failure.TheVariants.{Usage, BadLine, ReadFault, WriteFault, Memory, TooLong}
+use Rattle.sessions.specs.World.{Seen, HasFailed}
 
 -- a front of the bytes that were left was read, of at most one byte more than a script may have
 pub record ReadFront (before now : Option (List ℕ)) : Type 0 where
@@ -27,10 +25,13 @@ pub record IsTooLong (before now : Option (List ℕ)) : Type 0 where
   pub long : length bytes ≡ SCRIPT_MOST + 1
 
 -- why the input could not be read
-abbrev pub ExplainsInput : Option (List ℕ) → Option (List ℕ) → ℕ → ℕ → InputError → Type 0
-ExplainsInput before now old new input.Failed = Rose old new
-ExplainsInput before now old new input.TooLong = IsTooLong before now
-ExplainsInput before now old new input.Memory = Unit {0}
+abbrev pub ExplainsInput : Seen (Option (List ℕ)) → Seen (Option (List ℕ)) → Failure → Type 0
+ExplainsInput old new Usage = ⊥
+ExplainsInput old new BadLine = ⊥
+ExplainsInput old new ReadFault = HasFailed old new
+ExplainsInput old new WriteFault = ⊥
+ExplainsInput old new Memory = Unit {0}
+ExplainsInput old new TooLong = IsTooLong old.told new.told
 
 -- the front of a text was written, and no more
 pub record WroteFront (before now : Option (List ℕ)) (text : List ℕ) : Type 0 where
@@ -40,6 +41,10 @@ pub record WroteFront (before now : Option (List ℕ)) (text : List ℕ) : Type 
   pub wrote : Appends before now front
 
 -- why a text was not written whole, of which the front was written
-pub record ExplainsOutput (before now : Option (List ℕ)) (old new : ℕ) (text : List ℕ) (error : Outside) : Type 0 where
-  pub wrote : WroteFront before now text
-  pub failed : error ≡ outside.Failed → Rose old new
+abbrev pub ExplainsOutput : Seen (Option (List ℕ)) → Seen (Option (List ℕ)) → List ℕ → Failure → Type 0
+ExplainsOutput old new text Usage = ⊥
+ExplainsOutput old new text BadLine = ⊥
+ExplainsOutput old new text ReadFault = ⊥
+ExplainsOutput old new text WriteFault = WroteFront old.told new.told text × HasFailed old new
+ExplainsOutput old new text Memory = WroteFront old.told new.told text
+ExplainsOutput old new text TooLong = ⊥

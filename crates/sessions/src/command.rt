@@ -1,7 +1,9 @@
 //! The commands of a script.
 
 ghost use Rattle.std.specs.Prelude.{◌≡◌, map, option_map, IfOk};
-ghost use Rattle.sessions.specs.Commands.{seen_command, verb_of, first_word, text_behind, at_line, open_plain, open_in_pool, open_line, set_line, ask_line, poll_line, done_line, command_with, command_of};
+ghost use Rattle.sessions.specs.Commands.{seen_request, seen_command, verb_of, first_word, text_behind, plain_form, moment_form, floor_form, user_form, user_pool_form, open_forms, pool_form, command_with, command_of};
+ghost use Rattle.sessions.specs.Words.{two_behind, three_behind};
+ghost use Rattle.std.specs.Option.{option_and_then};
 
 use crate::numbers::{Number, floor_of, moment_of};
 use crate::words::{line_words, one_behind, three_behind, two_behind};
@@ -21,24 +23,23 @@ pub enum Command<'a> {
         user: Name,
         pool: Option<Name>,
     },
-    /// `set S pool POOL`: a session chooses a pool.
-    SetPool {
-        session: Name,
-        pool: Name,
-    },
-    /// `ask S FLOOR`: a session submits a query that needs at least the floor.
-    Ask {
-        session: Name,
-        floor: u64,
-    },
-    /// `poll S`: a session asks what became of its query.
-    Poll {
-        session: Name,
-    },
-    /// `done S`: a session ends its query.
-    Done {
-        session: Name,
-    },
+    /// A line that asks something of the session of this name.
+    Of(Name, Request),
+}
+
+/// What a line asks of a session.
+#[derive(Clone, Copy, PartialEq, Eq, Debug)]
+pub enum Request {
+    /// `set S pool POOL`: it chooses a pool.
+    SetPool(Name),
+    /// `ask S FLOOR`: it submits a query that needs at least the floor.
+    Ask(u64),
+    /// `poll S`: it asks what became of its query.
+    Poll,
+    /// `done S`: it ends its query.
+    Done,
+    /// `close S`: it goes.
+    Close,
 }
 
 /// The first word of a command.
@@ -51,6 +52,7 @@ pub enum Verb {
     Ask,
     Poll,
     Done,
+    Close,
 }
 
 /// The command that a line gives, if it gives one.
@@ -70,13 +72,14 @@ fn read_with(alloc: Global, verb: Verb, line: &str) -> Result<Option<Command<'_>
     ensures { IfOk result (λ command. option_map seen_command command ≡ command_with verb line.now) }
 {
     match verb {
-        Verb::At => Ok(at_line(&line_words(alloc, line)?)),
+        Verb::At => Ok(moment_form(&line_words(alloc, line)?)),
         Verb::Sql => Ok(text_behind(line).map(Command::Sql)),
-        Verb::Open => Ok(open_line(&line_words(alloc, line)?)),
-        Verb::Set => Ok(set_line(&line_words(alloc, line)?)),
-        Verb::Ask => Ok(ask_line(&line_words(alloc, line)?)),
-        Verb::Poll => Ok(poll_line(&line_words(alloc, line)?)),
-        Verb::Done => Ok(done_line(&line_words(alloc, line)?)),
+        Verb::Open => Ok(open_forms(&line_words(alloc, line)?)),
+        Verb::Set => Ok(pool_form(&line_words(alloc, line)?)),
+        Verb::Ask => Ok(floor_form(&line_words(alloc, line)?)),
+        Verb::Poll => Ok(plain_form(Request::Poll, &line_words(alloc, line)?)),
+        Verb::Done => Ok(plain_form(Request::Done, &line_words(alloc, line)?)),
+        Verb::Close => Ok(plain_form(Request::Close, &line_words(alloc, line)?)),
     }
 }
 
@@ -92,6 +95,7 @@ fn verb_of(word: &str) -> Option<Verb>
         "ask" => Some(Verb::Ask),
         "poll" => Some(Verb::Poll),
         "done" => Some(Verb::Done),
+        "close" => Some(Verb::Close),
         _ => None,
     }
 }
@@ -116,30 +120,47 @@ fn text_behind(line: &str) -> Option<&str>
     }
 }
 
-/// `at N`
-fn at_line<'a>(words: &[&str]) -> Option<Command<'a>>
-    ensures { option_map seen_command result ≡ at_line (map (λ word. word.now) words.now) }
+/// `S`, of which this is asked
+fn plain_form<'a>(request: Request, words: &[&str]) -> Option<Command<'a>>
+    ensures { option_map seen_command result ≡ plain_form (seen_request request) (map (λ word. word.now) words.now) }
+{
+    let session = one_behind(words)?;
+    Some(Command::Of(Name::of(session)?, request))
+}
+
+/// `N`
+fn moment_form<'a>(words: &[&str]) -> Option<Command<'a>>
+    ensures { option_map seen_command result ≡ moment_form (map (λ word. word.now) words.now) }
 {
     let moment = one_behind(words)?;
     Some(Command::At(moment_of(moment)?))
 }
 
-/// `open S USER` or `open S USER POOL`
-fn open_line<'a>(words: &[&str]) -> Option<Command<'a>>
-    ensures { option_map seen_command result ≡ open_line (map (λ word. word.now) words.now) }
+/// `S FLOOR`
+fn floor_form<'a>(words: &[&str]) -> Option<Command<'a>>
+    ensures { option_map seen_command result ≡ floor_form (map (λ word. word.now) words.now) }
+{
+    let (session, floor) = two_behind(words)?;
+    Some(Command::Of(Name::of(session)?, Request::Ask(floor_of(floor)?)))
+}
+
+/// `S USER`, or else `S USER POOL`
+fn open_forms<'a>(words: &[&str]) -> Option<Command<'a>>
+    ensures { let parts = map (λ word. word.now) words.now in
+        option_map seen_command result ≡ open_forms (two_behind parts) (three_behind parts) }
 {
     match two_behind(words) {
-        Some((session, user)) => open_plain(session, user),
+        Some((session, user)) => user_form(session, user),
         None => {
             let (session, user, pool) = three_behind(words)?;
-            open_in_pool(session, user, pool)
+            user_pool_form(session, user, pool)
         }
     }
 }
 
-/// `open S USER`
-fn open_plain<'a>(session: &str, user: &str) -> Option<Command<'a>>
-    ensures { option_map seen_command result ≡ open_plain (session.now, user.now) }
+/// `S USER`
+fn user_form<'a>(session: &str, user: &str) -> Option<Command<'a>>
+    ensures { option_map seen_command result ≡ user_form (session.now, user.now) }
 {
     Some(Command::Open {
         session: Name::of(session)?,
@@ -148,9 +169,9 @@ fn open_plain<'a>(session: &str, user: &str) -> Option<Command<'a>>
     })
 }
 
-/// `open S USER POOL`
-fn open_in_pool<'a>(session: &str, user: &str, pool: &str) -> Option<Command<'a>>
-    ensures { option_map seen_command result ≡ open_in_pool (session.now, user.now, pool.now) }
+/// `S USER POOL`
+fn user_pool_form<'a>(session: &str, user: &str, pool: &str) -> Option<Command<'a>>
+    ensures { option_map seen_command result ≡ user_pool_form (session.now, user.now, pool.now) }
 {
     Some(Command::Open {
         session: Name::of(session)?,
@@ -159,47 +180,13 @@ fn open_in_pool<'a>(session: &str, user: &str, pool: &str) -> Option<Command<'a>
     })
 }
 
-/// `set S pool POOL`
-fn set_line<'a>(words: &[&str]) -> Option<Command<'a>>
-    ensures { option_map seen_command result ≡ set_line (map (λ word. word.now) words.now) }
+/// `S pool POOL`
+fn pool_form<'a>(words: &[&str]) -> Option<Command<'a>>
+    ensures { option_map seen_command result ≡ option_and_then pool_form (three_behind (map (λ word. word.now) words.now)) }
 {
-    let (session, what, value) = three_behind(words)?;
-    match what {
-        "pool" => Some(Command::SetPool {
-            session: Name::of(session)?,
-            pool: Name::of(value)?,
-        }),
+    let (session, key, pool) = three_behind(words)?;
+    match key {
+        "pool" => Some(Command::Of(Name::of(session)?, Request::SetPool(Name::of(pool)?))),
         _ => None,
     }
-}
-
-/// `ask S FLOOR`
-fn ask_line<'a>(words: &[&str]) -> Option<Command<'a>>
-    ensures { option_map seen_command result ≡ ask_line (map (λ word. word.now) words.now) }
-{
-    let (session, floor) = two_behind(words)?;
-    Some(Command::Ask {
-        session: Name::of(session)?,
-        floor: floor_of(floor)?,
-    })
-}
-
-/// `poll S`
-fn poll_line<'a>(words: &[&str]) -> Option<Command<'a>>
-    ensures { option_map seen_command result ≡ poll_line (map (λ word. word.now) words.now) }
-{
-    let session = one_behind(words)?;
-    Some(Command::Poll {
-        session: Name::of(session)?,
-    })
-}
-
-/// `done S`
-fn done_line<'a>(words: &[&str]) -> Option<Command<'a>>
-    ensures { option_map seen_command result ≡ done_line (map (λ word. word.now) words.now) }
-{
-    let session = one_behind(words)?;
-    Some(Command::Done {
-        session: Name::of(session)?,
-    })
 }

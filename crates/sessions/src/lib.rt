@@ -4,7 +4,8 @@
 
 mod command;
 mod comments;
-mod ended;
+mod failure;
+pub mod host;
 mod input;
 mod lines;
 mod names;

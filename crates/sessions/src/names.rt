@@ -1,7 +1,8 @@
 //! The names that a script gives to its sessions.
 
-ghost use Rattle.std.specs.Prelude.{◌≡◌};
-ghost use Rattle.sessions.specs.SessionNames.{session_named};
+ghost use Rattle.std.specs.Prelude.{◌≡◌, ◌<◌, IfSome, length, position};
+ghost use Rattle.rm_base.specs.Name.{same_name};
+ghost use Rattle.sessions.specs.SessionNames.{is_used, without_name};
 
 use rm_base::name::Name;
 
@@ -12,9 +13,26 @@ pub struct Named {
     pub session: u32,
 }
 
-/// The session that has this name.
-pub fn session_named(names: &[Named], name: Name) -> Option<u32>
-    ensures { result ≡ session_named names.now name }
+/// The place of the session that has this name.
+pub fn place_of(names: &[Named], name: Name) -> Option<usize>
+    ensures place { result ≡ position (λ n. same_name n.name name) names.now }
+    ensures within { IfSome result (λ place. place < length names.now) }
 {
-    names.iter().find(|n| n.name.same(name)).map(|n| n.session)
+    names.iter().position(|n| n.name.same(name))
+}
+
+/// Whether a session has this name.
+pub fn is_used(names: &[Named], name: Name) -> bool
+    ensures { result ≡ is_used names.now name }
+{
+    names.iter().any(|n| n.name.same(name))
+}
+
+/// The name is free again.
+pub fn free(names: &mut Vec<Named>, name: Name)
+    ensures { names.new.items ≡ without_name name names.old.items }
+{
+    if let Some(place) = place_of(names, name) {
+        names.remove(place);
+    }
 }

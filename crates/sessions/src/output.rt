@@ -3,21 +3,22 @@
 ghost use Rattle.std.specs.Prelude.{◌≤◌, IfErr, OnOk};
 ghost use Rattle.std.specs.Io.KnownBytes.{Appends};
 ghost use Rattle.sessions.specs.Transfers.{ExplainsOutput};
+ghost use Rattle.sessions.specs.World.{seen_sink};
 
-use rm_outside::outside::Outside;
+use crate::failure::{Failure, write_failure};
 use rm_outside::sink::Sink;
 
 /// Writes a text, as often as the sink takes a part of it.
-pub fn write_text<O: Sink>(out: &mut O, text: &[u8]) -> Result<(), Outside>
+pub fn write_text<O: Sink>(out: &mut O, text: &[u8]) -> Result<(), Failure>
     ensures later { O.faults out.old ≤ O.faults out.new }
     ensures whole { OnOk result (Appends (O.written out.old) (O.written out.new) text.now) }
-    ensures err { IfErr result (ExplainsOutput (O.written out.old) (O.written out.new) (O.faults out.old) (O.faults out.new) text.now) }
+    ensures err { IfErr result (ExplainsOutput (seen_sink O.Sink out.old) (seen_sink O.Sink out.new) text.now) }
 {
     let mut at = 0;
     while at < text.len() {
         match out.write(&text[at..]) {
             Ok(count) => at += count,
-            Err(error) => return Err(error),
+            Err(error) => return Err(write_failure(error)),
         }
     }
     Ok(())

@@ -3,14 +3,15 @@
 ghost use Rattle.std.specs.Prelude.{◌≡◌, IfOk};
 ghost use Rattle.rm_base.specs.declared.reply.Reply.TheVariants as reply;
 ghost use Rattle.rm_rules.specs.Acceptance.{is_judged};
-ghost use Rattle.sessions.specs.Script.{ScriptState, Goes};
+ghost use Rattle.sessions.specs.Turns.{ScriptState, Goes};
 ghost use Rattle.sessions.specs.Running.{seen_turn};
 ghost use Rattle.sessions.specs.Texts.{bare_text};
 
-use crate::command::{Command, read_command};
+use crate::command::{Command, Request, read_command};
 use crate::comments::is_comment;
+use crate::failure::Failure;
 use crate::lines::readable;
-use crate::names::{Named, session_named};
+use crate::names::{Named, free, is_used, place_of};
 use crate::numbers::Number;
 use crate::options::Options;
 use crate::texts::{bare_text, chosen_text, line_text, queued_text};
@@ -19,7 +20,7 @@ use pool_sql::reading::{ReadError, read_statement};
 use pool_table::accept;
 use rm_base::definitions::Definitions;
 use rm_base::event::Event;
-use rm_base::limits::{LINES_MOST, SCRIPT_ROOM, SESSIONS_MOST};
+use rm_base::limits::SCRIPT_ROOM;
 use rm_base::moment::Moment;
 use rm_base::name::Name;
 use rm_base::refusal::Refusal;
@@ -46,16 +47,18 @@ pub enum Turned {
 const SEAT: u32 = 0;
 
 impl Script {
-    ghost use Rattle.std.specs.Prelude.{◌≡◌, true, [], IfOk};
+    ghost use Rattle.std.specs.Prelude.{◌≡◌, true, [], IfOk, IfErr, string_bytes};
     ghost use Rattle.rm_base.specs.Ranges.{is_statement_in_range};
     ghost use Rattle.rm_base.specs.WellFormed.{IsWellFormed};
     ghost use Rattle.rm_rules.specs.Step.{step};
     ghost use Rattle.rm_rules.specs.Replay.{IsFormed};
-    ghost use Rattle.sessions.specs.Commands.{seen_command};
+    ghost use Rattle.pool_sql.specs.Reading.{read_of};
+    ghost use Rattle.sessions.specs.Commands.{seen_command, seen_request};
     ghost use Rattle.sessions.specs.OptionsFacts.{AreWithin};
-    ghost use Rattle.sessions.specs.Script.{first_state, line_turn, turn, at_turn, sql_turn, statement_turn, open_turn, opening_turn, chosen_turn, set_pool_turn, ask_turn, poll_turn, done_turn};
+    ghost use Rattle.sessions.specs.Script.{first_state, line_turn};
+    ghost use Rattle.sessions.specs.Turns.{turn, at_turn, read_turn, statement_turn, open_turn, opening_turn, chosen_turn, close_turn, session_turn, request_turn, Goes};
     ghost use Rattle.sessions.specs.SessionNames.{session_named};
-    ghost use Rattle.sessions.specs.Running.{seen_script, seen_turn, IsEarly};
+    ghost use Rattle.sessions.specs.Running.{seen_script, seen_turn, IsLineFault};
 
     /// A script before its first line.
     pub fn new(alloc: Global, options: Options) -> Result<Script, AllocError>
@@ -65,24 +68,16 @@ impl Script {
         let definitions = Definitions::new(alloc, options.memory, options.cores)?;
         Ok(Script {
             desk: Desk::new(alloc, definitions, SCRIPT_ROOM)?,
-            names: Vec::with_capacity(alloc, SESSIONS_MOST)?,
+            names: Vec::new(alloc),
             moment: Moment::of(0),
         })
     }
 
-    /// Does what a line says, the line's number being counted from 1.
-    pub fn take_line(
-        &mut self,
-        alloc: Global,
-        number: u64,
-        line: &[u8],
-    ) -> Result<Turned, AllocError>
-        ensures turn { IfOk result (λ t. seen_turn t (seen_script self.new) ≡ line_turn number (seen_script self.old) line.now) }
-        ensures early { IfOk result (IsEarly number) }
+    /// Does what a line says.
+    pub fn take_line(&mut self, alloc: Global, line: &[u8]) -> Result<Turned, Failure>
+        ensures turn { IfOk result (λ t. seen_turn t (seen_script self.new) ≡ line_turn (seen_script self.old) line.now) }
+        ensures fault { IfErr result IsLineFault }
     {
-        if number > LINES_MOST {
-            return Ok(Turned::Bad);
-        }
         let Some(line) = readable(line) else {
             return Ok(Turned::Bad);
         };
@@ -96,21 +91,19 @@ impl Script {
     }
 
     /// Does what a command says.
-    fn take_command(&mut self, alloc: Global, command: Command<'_>) -> Result<Turned, AllocError>
-        ensures { IfOk result (λ t. seen_turn t (seen_script self.new) ≡ turn (seen_script self.old) (seen_command command.entry)) }
+    fn take_command(&mut self, alloc: Global, command: Command<'_>) -> Result<Turned, Failure>
+        ensures turn { IfOk result (λ t. seen_turn t (seen_script self.new) ≡ turn (seen_script self.old) (seen_command command.entry)) }
+        ensures fault { IfErr result IsLineFault }
     {
         match command {
             Command::At(moment) => Ok(self.move_to(alloc, moment)),
-            Command::Sql(text) => self.take_text(alloc, text),
+            Command::Sql(text) => Ok(self.take_text(alloc, text)?),
             Command::Open {
                 session,
                 user,
                 pool,
-            } => self.open(alloc, session, user, pool),
-            Command::SetPool { session, pool } => self.set_pool(alloc, session, pool),
-            Command::Ask { session, floor } => self.ask(alloc, session, floor),
-            Command::Poll { session } => self.poll(alloc, session),
-            Command::Done { session } => self.finish(alloc, session),
+            } => Ok(self.open(alloc, session, user, pool)?),
+            Command::Of(session, request) => Ok(self.take_request(alloc, session, request)?),
         }
     }
 
@@ -128,7 +121,7 @@ impl Script {
 
     /// `sql TEXT`
     fn take_text(&mut self, alloc: Global, text: &str) -> Result<Turned, AllocError>
-        ensures { IfOk result (λ t. seen_turn t (seen_script self.new) ≡ sql_turn (seen_script self.old) text.now) }
+        ensures { IfOk result (λ t. seen_turn t (seen_script self.new) ≡ read_turn (seen_script self.old) (read_of text.now)) }
     {
         match read_statement(alloc, text) {
             Ok(statement) => self.take_statement(alloc, &statement),
@@ -165,10 +158,7 @@ impl Script {
     ) -> Result<Turned, AllocError>
         ensures { IfOk result (λ t. seen_turn t (seen_script self.new) ≡ open_turn (seen_script self.old) session user pool) }
     {
-        if session_named(&self.names, session).is_some()
-            || self.names.len() >= SESSIONS_MOST
-            || !user.same(Name::dbadmin())
-        {
+        if is_used(&self.names, session) {
             return Ok(Turned::Bad);
         }
         self.open_session(alloc, session, user, pool)
@@ -217,54 +207,69 @@ impl Script {
         Ok(Turned::Goes(chosen_text(alloc, session, number, reply)?))
     }
 
-    /// `set S pool POOL`
-    fn set_pool(&mut self, alloc: Global, session: Name, pool: Name) -> Result<Turned, AllocError>
-        ensures { IfOk result (λ t. seen_turn t (seen_script self.new) ≡ set_pool_turn (seen_script self.old) session pool (session_named (seen_script self.old).names session)) }
+    /// Does what a line asks of the session that has a name.
+    fn take_request(
+        &mut self,
+        alloc: Global,
+        session: Name,
+        request: Request,
+    ) -> Result<Turned, AllocError>
+        ensures { IfOk result (λ t. seen_turn t (seen_script self.new) ≡ session_turn (seen_script self.old) session (seen_request request) (session_named (seen_script self.old).names session)) }
     {
-        let Some(number) = session_named(&self.names, session) else {
+        let Some(place) = place_of(&self.names, session) else {
             return Ok(Turned::Bad);
         };
-        let reply = self.call(&Event::SetPool {
-            session: number,
-            pool,
-        });
-        Ok(Turned::Goes(line_text(alloc, session, reply)?))
+        let number = self.names[place].session;
+        self.request(alloc, session, number, request)
     }
 
-    /// `ask S FLOOR`
-    fn ask(&mut self, alloc: Global, session: Name, floor: u64) -> Result<Turned, AllocError>
-        ensures { IfOk result (λ t. seen_turn t (seen_script self.new) ≡ ask_turn (seen_script self.old) session floor (session_named (seen_script self.old).names session)) }
+    /// Does what a line asks of the session of this number.
+    fn request(
+        &mut self,
+        alloc: Global,
+        session: Name,
+        number: u32,
+        request: Request,
+    ) -> Result<Turned, AllocError>
+        ensures { IfOk result (λ t. seen_turn t (seen_script self.new) ≡ request_turn (seen_script self.old) session number (seen_request request)) }
     {
-        let Some(number) = session_named(&self.names, session) else {
-            return Ok(Turned::Bad);
+        let text = match request {
+            Request::SetPool(pool) => {
+                let reply = self.call(&Event::SetPool {
+                    session: number,
+                    pool,
+                });
+                line_text(alloc, session, reply)?
+            }
+            Request::Ask(floor) => {
+                let reply = self.call(&Event::Submit {
+                    session: number,
+                    floor,
+                });
+                queued_text(alloc, session, reply)?
+            }
+            Request::Poll => {
+                let reply = self.call(&Event::Poll { session: number });
+                line_text(alloc, session, reply)?
+            }
+            Request::Done => {
+                let reply = self.call(&Event::Finish { session: number });
+                line_text(alloc, session, reply)?
+            }
+            Request::Close => self.close(alloc, session, number)?,
         };
-        let reply = self.call(&Event::Submit {
-            session: number,
-            floor,
-        });
-        Ok(Turned::Goes(queued_text(alloc, session, reply)?))
+        Ok(Turned::Goes(text))
     }
 
-    /// `poll S`
-    fn poll(&mut self, alloc: Global, session: Name) -> Result<Turned, AllocError>
-        ensures { IfOk result (λ t. seen_turn t (seen_script self.new) ≡ poll_turn (seen_script self.old) session (session_named (seen_script self.old).names session)) }
+    /// `close S`
+    fn close(&mut self, alloc: Global, session: Name, number: u32) -> Result<String, AllocError>
+        ensures { IfOk result (λ text. Goes (string_bytes text) (seen_script self.new) ≡ close_turn (seen_script self.old) session number) }
     {
-        let Some(number) = session_named(&self.names, session) else {
-            return Ok(Turned::Bad);
-        };
-        let reply = self.call(&Event::Poll { session: number });
-        Ok(Turned::Goes(line_text(alloc, session, reply)?))
-    }
-
-    /// `done S`
-    fn finish(&mut self, alloc: Global, session: Name) -> Result<Turned, AllocError>
-        ensures { IfOk result (λ t. seen_turn t (seen_script self.new) ≡ done_turn (seen_script self.old) session (session_named (seen_script self.old).names session)) }
-    {
-        let Some(number) = session_named(&self.names, session) else {
-            return Ok(Turned::Bad);
-        };
-        let reply = self.call(&Event::Finish { session: number });
-        Ok(Turned::Goes(line_text(alloc, session, reply)?))
+        let reply = self.call(&Event::Close { session: number });
+        if let Reply::Closed = reply {
+            free(&mut self.names, session);
+        }
+        line_text(alloc, session, reply)
     }
 
     /// Makes a machine call at the script's moment.

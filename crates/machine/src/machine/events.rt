@@ -115,6 +115,10 @@ impl Machine {
                 let x = self.session_of(seat, *session)?;
                 self.finish(&x)
             }
+            Event::Close { session } => {
+                let x = self.session_of(seat, *session)?;
+                self.close(&x)
+            }
         }
     }
 }

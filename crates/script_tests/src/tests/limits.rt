@@ -31,17 +31,13 @@ fn prints(
     Ok(())
 }
 
+/// Lines are counted from 1, also those that print nothing.
 #[test]
-fn a_script_has_so_many_lines(rt: HostRuntime) -> Result<(), Fail> {
+fn a_bad_line_is_told_by_its_number(rt: HostRuntime) -> Result<(), Fail> {
     let alloc = rt.alloc();
-    prints(&rt, alloc, &repeated(alloc, b"#\n", 4_096)?, 0, b"")?;
-    prints(
-        &rt,
-        alloc,
-        &repeated(alloc, b"#\n", 4_097)?,
-        2,
-        b"bad line 4097\n",
-    )
+    let mut script = repeated(alloc, b"#\n", 5_000)?;
+    script.extend_from_slice(b"open a dbadmin\nfrob\nopen b dbadmin\n")?;
+    prints(&rt, alloc, &script, 2, b"a opened 1\nbad line 5002\n")
 }
 
 #[test]
@@ -71,10 +67,13 @@ fn numbered(alloc: Global, before: &str, after: &str, most: u32) -> Result<Strin
 
 #[test]
 fn so_many_sessions_are_open(rt: HostRuntime) -> Result<(), Fail> {
-    let script = numbered(rt.alloc(), "open s", " dbadmin", 129)?;
+    let mut script = numbered(rt.alloc(), "open s", " dbadmin", 129)?;
+    script.push_str("close s1\nopen s129 dbadmin\nopen s1 dbadmin\nclose s128\nopen s1 dbadmin\n")?;
     let (status, out) = run(rt.alloc(), USUAL, script.as_bytes())?;
-    assert_eq!(rt; status, 2);
-    assert!(rt; out.contents().ends_with(b"s128 opened 128\nbad line 129\n"));
+    assert_eq!(rt; status, 0);
+    assert!(rt; out.contents().ends_with(
+        b"s128 opened 128\ns129 refused 24 128\ns1 closed\ns129 opened 129\ns1 refused 24 128\ns128 closed\ns1 opened 130\n"
+    ));
     Ok(())
 }
 
@@ -88,22 +87,24 @@ fn so_many_pools_are_there(rt: HostRuntime) -> Result<(), Fail> {
     Ok(())
 }
 
-/// Runs so many line feeds, and answers the status, what was written and how many bytes are left, up to 2.
+/// Runs so many line feeds and a bad line, and answers the status, what was written and how many bytes are left, up to 2.
 fn run_feeds(alloc: Global, count: usize) -> Result<(u8, MemorySink, usize), Fail> {
-    let mut input = MemorySource::new(vec![in alloc; b'\n'; count]?);
+    let mut script = vec![in alloc; b'\n'; count]?;
+    script.push(b'x')?;
+    let mut input = MemorySource::new(script);
     let mut out = MemorySink::new(alloc);
     let status = status_over(alloc, USUAL, &mut input, &mut out)?;
     let left = input.read(&mut [0; 2]).ok().ok_or("no answer")?;
     Ok((status, out, left))
 }
 
-/// A script of 64 MiB is run; of a longer one a byte more is read, and no second one.
+/// A script of 64 MiB is run, and has that many lines at most; of a longer one a byte more is read, and no second one.
 #[test]
 fn a_script_has_so_many_bytes(rt: HostRuntime) -> Result<(), Fail> {
-    let (status, out, left) = run_feeds(rt.alloc(), 67_108_864)?;
+    let (status, out, left) = run_feeds(rt.alloc(), 67_108_863)?;
     assert_eq!(rt; (status, left), (2, 0));
-    assert_eq!(rt; out.contents(), b"bad line 4097\n".as_slice());
-    let (status, out, left) = run_feeds(rt.alloc(), 67_108_866)?;
+    assert_eq!(rt; out.contents(), b"bad line 67108864\n".as_slice());
+    let (status, out, left) = run_feeds(rt.alloc(), 67_108_865)?;
     assert_eq!(rt; (status, left), (8, 1));
     assert_eq!(rt; out.contents(), b"".as_slice());
     Ok(())

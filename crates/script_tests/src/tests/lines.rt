@@ -160,6 +160,15 @@ a opened 1
 a admitted 23658496 general 23658496 0
 bad line 5
 ====
+# Nobody opens a session whose user is not there, and then no pool is set; the name is as free as before.
+open a ann
+open a ann etl
+ask a 1
+---- 2
+a refused 8 ann
+a refused 8 ann
+bad line 4
+====
 # A session whose pool is refused stays open, in GENERAL.
 open a dbadmin etl
 ask a 1
@@ -201,14 +210,14 @@ fn lines_do_what_they_say(rt: HostRuntime) -> Result<(), Fail> {
 /// Lines that are bad where session `a` is open and the moment is 7, with `|` between them.
 static BAD: &str = "\
 at|at |at 6|at 7 |at 7 7|at a 7|at a|at +7|at -7|at 7.0|at 7ms|at seven|at 0000000000000007|at 1000000000000000| at 7|\
-at\t7|At 7|at7| sql x|sql|sqlx|Sql x|sql\tx|sql DROP RESOURCE POOL etl|sql CREATE USER ann|sql CREATE ROLE r|\
+at\t7|At 7|at7| sql x|sql|sqlx|Sql x|sql\tx|sql DROP RESOURCE POOL etl|\
 open b|open b dbadmin etl x|Open b dbadmin|open b dbadmin |open b dbadmin etl |open\tb dbadmin|open b\tdbadmin|\
-open 1b dbadmin|open b-c dbadmin|open min dbadmin|open b Select|open b ann|open b ann general|open b dbadmin select|\
+open 1b dbadmin|open b-c dbadmin|open min dbadmin|open b Select|open b dbadmin select|\
 open b dbadmin 1etl|open \u{e4} dbadmin|open a dbadmin|open A dbadmin|open a dbadmin etl| open b dbadmin|set a pool|\
 set a Pool etl|set a pool select|set a cap 7|set a pool etl x|set b pool general|set a|ask a 0|ask a 000000000000000|\
 ask a 0000000000000001|ask a 1000000000000000|ask a +7|ask a -7|ask a|ask a 7 7|ask 7 a|ask a 7 |ask b 1|ask a 1_0|\
 ask a 0x1|ask a 1a|ask a 1.0|ask a \u{661}|ask a one|poll|poll a b|poll a | poll a|poll b|done|done a-b|done a a|\
-done a |done b|dones a|frob a| # no note| |\t|\u{feff}# no note";
+done a |done b|dones a|close|close a b|close a | close a|close b|Close a|closed a|frob a| # no note| |\t|\u{feff}# no note";
 
 #[test]
 fn other_lines_are_bad(rt: HostRuntime) -> Result<(), Fail> {

@@ -6,9 +6,9 @@ use Rattle.sessions.proofs.input.read_input.Goals as goal
 pub returns-in_err-extend_from_slice-clause-reads : goal.returns-in_err-extend_from_slice-clause-reads
 returns-in_err-extend_from_slice-clause-reads g c =
     let bytes = c.loop-piece.bytes.items in
-    let piece = take c.in_ok-count.count c.read.new.into in
+    let piece = take c.in-Ok.count c.read.new.into in
     record {
       bytes = bytes ++ piece;
-      read = Consumes-trans _ _ _ bytes piece c.loop-piece.invariant.read c.in_ok-count.ensures.bytes.0;
-      within = omega (arith, length-append bytes piece, length-take {A = ℕ}, c.in_ok-count.ensures.bound);
+      read = Consumes-trans _ _ _ bytes piece c.loop-piece.invariant.read c.in-Ok.ensures.bytes.0;
+      within = omega (arith, length-append bytes piece, length-take {A = ℕ}, c.in-Ok.ensures.bound);
     }

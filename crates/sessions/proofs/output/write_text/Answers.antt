@@ -1,14 +1,20 @@
-use Rattle.std.proofs.Common.{ℕ, Result, Err, ap, arith}
+use Rattle.std.proofs.Common.{ℕ, Result, Err, ap, arith, sym, subst}
 use Rattle.rm_outside.specs.declared.outside.Outside.{Outside}
 use Rattle.std.proofs.lemmas.List.{length-drop, length-take}
-use Rattle.sessions.proofs.Written.{wrote_more, wrote_front}
+use Rattle.sessions.specs.declared.failure.Failure.{Failure}
+use Rattle.sessions.specs.Transfers.{ExplainsOutput}
+use Rattle.sessions.specs.World.{seen_sink}
+use Rattle.sessions.proofs.Written.{wrote_more, wrote_front, explained}
 use Rattle.sessions.proofs.output.write_text.Goals as goal
 
 pub returns-in-Err-clause-err : goal.returns-in-Err-clause-err
-returns-in-Err-clause-err g c = record {
-  wrote = wrote_front _ _ _ c.args.text.now c.loop-at.at c.loop-at.invariant.wrote c.in-Err.ensures.bytes;
-  failed = λ e. omega (arith, c.in-Err.ensures.cause.failed (ap {B = Result ℕ Outside} Err e), c.loop-at.invariant.later);
-}
+returns-in-Err-clause-err g c =
+    let old = seen_sink g.O.Sink c.args.out.now in
+    let new = seen_sink g.O.Sink c.write.new.self in
+    subst (λ (f : Failure). ExplainsOutput old new c.args.text.now f) (sym c.write_failure.ensures)
+    (explained old new c.args.text.now c.in-Err.error
+    (wrote_front _ _ _ c.args.text.now c.loop-at.at c.loop-at.invariant.wrote c.in-Err.ensures.bytes)
+    (λ e. omega (arith, c.in-Err.ensures.cause.failed (ap {B = Result ℕ Outside} Err e), c.loop-at.invariant.later)))
 
 pub loop-at-preserved : goal.loop-at-preserved
 loop-at-preserved g c = record {

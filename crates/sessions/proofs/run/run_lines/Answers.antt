@@ -1,17 +1,19 @@
+use Rattle.std.proofs.lemmas.Result.{err_from_is_err_and}
 use Rattle.sessions.specs.Running.{seen_script}
+use Rattle.sessions.specs.World.{seen_sink}
 use Rattle.sessions.proofs.RunLemmas.{has_run-ends, has_run-more}
 use Rattle.sessions.proofs.run.run_lines.Goals as goal
 
-pub returns-in-Some-run_line-clause-ends : goal.returns-in-Some-run_line-clause-ends
-returns-in-Some-run_line-clause-ends g c =
-    has_run-ends c.args.bytes.now c.loop-line.rest.now c.in-Some.more.now c.in-Some.line.now (seen_script c.args.script.now) (seen_script c.loop-line.script) c.loop-line.number
-    (g.O.Sink.written c.args.out.now) (g.O.Sink.written c.loop-line.out) (g.O.Sink.written c.run_line.new.out)
-    (g.O.Sink.faults c.args.out.now) (g.O.Sink.faults c.loop-line.out) (g.O.Sink.faults c.run_line.new.out)
-    c.in-Some-run_line.end c.loop-line.invariant c.in-Some.ensures.line c.in-Some-run_line.ensures.ends
+pub returns-in_err-run_line-clause-ends : goal.returns-in_err-run_line-clause-ends
+returns-in_err-run_line-clause-ends g c =
+    let p = err_from_is_err_and c.from_residual.result c.from_residual.ensures.1 in
+    rw (p.1, p.2)
+    (has_run-ends c.args.bytes.now c.loop-line.rest.now c.in-Some.more.now c.in-Some.line.now (seen_script c.args.script.now) (seen_script c.loop-line.script) c.loop-line.number
+    (seen_sink g.O.Sink c.args.out.now) (seen_sink g.O.Sink c.loop-line.out) (seen_sink g.O.Sink c.run_line.new.out)
+    c.in_err-run_line.field-0.0 c.loop-line.invariant c.in-Some.ensures.line c.in_err-run_line.ensures.ends)
 
 pub loop-line-preserved : goal.loop-line-preserved
 loop-line-preserved g c =
     has_run-more c.args.bytes.now c.loop-line.rest.now c.in-Some.more.now c.in-Some.line.now (seen_script c.args.script.now) (seen_script c.loop-line.script) (seen_script c.run_line.new.script) c.loop-line.number
-    (g.O.Sink.written c.args.out.now) (g.O.Sink.written c.loop-line.out) (g.O.Sink.written c.run_line.new.out)
-    (g.O.Sink.faults c.args.out.now) (g.O.Sink.faults c.loop-line.out) (g.O.Sink.faults c.run_line.new.out)
-    c.loop-line.invariant c.in-Some.ensures.line c.in_default-run_line.ensures.goes c.run_line.ensures.later
+    (seen_sink g.O.Sink c.args.out.now) (seen_sink g.O.Sink c.loop-line.out) (seen_sink g.O.Sink c.run_line.new.out)
+    c.loop-line.invariant c.in-Some.ensures.line c.in-Some.ensures.shorter c.in_ok-run_line.ensures.goes c.run_line.ensures.later

@@ -1,43 +1,21 @@
-use Rattle.std.proofs.Common.{◌≡◌, ◌<◌, ◌⊎◌, ℕ, ◌∙◌, sym, subst, map, length, string_bytes}
-use Rattle.std.specs.Option.{IfSome}
-use Rattle.rm_base.specs.declared.limits.TheConstants.{SCRIPT_MOST}
-use Rattle.sessions.specs.declared.status.TheConstants.{USAGE, READ_FAULT, NO_MEMORY, TOO_LONG}
-use Rattle.sessions.specs.Ended.{Streams}
-use Rattle.sessions.specs.Options.{options_of}
-use Rattle.sessions.proofs.EndedLaws.{IsScript, exact, always, never_run}
-use Rattle.sessions.proofs.ScriptLaws.{one_history}
+use Rattle.std.proofs.Common.{ℕ, sym, ◌∙◌, subst, map, string_bytes}
+use Rattle.sessions.specs.Ended.{IsRun}
+use Rattle.sessions.specs.World.{seen_world}
+use Rattle.sessions.proofs.EndedLaws.{is_run}
 use Rattle.sessions.proofs.script_main.script_main.Goals as goal
 
-pub returns-clause-exact : goal.returns-clause-exact
-returns-clause-exact g c =
-    let o = options_of (map string_bytes c.args.words.now) in
-    let s : Streams = record {
-      left = g.S.Source.left c.args.input.now;
-      left_now = g.S.Source.left c.run_words.new.input;
-      reads = g.S.Source.faults c.args.input.now;
-      reads_now = g.S.Source.faults c.run_words.new.input;
-      written = g.O.Sink.written c.args.out.now;
-      written_now = g.O.Sink.written c.run_words.new.out;
-      writes = g.O.Sink.faults c.args.out.now;
-      writes_now = g.O.Sink.faults c.run_words.new.out;
-    } in
-    λ r w m. subst (λ (n : ℕ). IsScript o s n) (sym c.status_of.ensures) (exact o s c.run_words.result c.run_words.ensures.ends r w (λ k. m (c.status_of.ensures ∙ k)))
+pub returns-clause-run : goal.returns-clause-run
+returns-clause-run g c =
+    let words = map string_bytes c.args.words.now in
+    let world = seen_world g.S.Source g.O.Sink g.H.Shelf g.P.Spool g.K.Keeper in
+    let old = world c.args.input.now c.args.out.now c.args.shelf.now c.args.spool.now c.args.keeper.now in
+    let new = world c.run_words.new.input c.run_words.new.out c.args.shelf.now c.args.spool.now c.args.keeper.now in
+    subst (λ (status : ℕ). IsRun words old new status) (sym c.status_of.ensures) (is_run words old new c.run_words.result (c.run_words.ensures.ends old new) c.run_words.ensures.reads)
 
-pub returns-clause-one_history : goal.returns-clause-one_history
-returns-clause-one_history g c = always (g.S.Source.left c.args.input.now) _ (λ bytes options h. one_history (map string_bytes c.args.words.now) bytes options h)
-
-pub returns-clause-never_run : goal.returns-clause-never_run
-returns-clause-never_run g c =
-    let o = options_of (map string_bytes c.args.words.now) in
-    let s : Streams = record {
-      left = g.S.Source.left c.args.input.now;
-      left_now = g.S.Source.left c.run_words.new.input;
-      reads = g.S.Source.faults c.args.input.now;
-      reads_now = g.S.Source.faults c.run_words.new.input;
-      written = g.O.Sink.written c.args.out.now;
-      written_now = g.O.Sink.written c.run_words.new.out;
-      writes = g.O.Sink.faults c.args.out.now;
-      writes_now = g.O.Sink.faults c.run_words.new.out;
-    } in
-    subst (λ (n : ℕ). IfSome s.left (λ bytes. SCRIPT_MOST < length bytes → (n ≡ USAGE) ⊎ ((n ≡ READ_FAULT) ⊎ ((n ≡ NO_MEMORY) ⊎ (n ≡ TOO_LONG)))))
-    (sym c.status_of.ensures) (never_run o s c.run_words.result c.run_words.ensures.ends)
+pub returns-clause-unread : goal.returns-clause-unread
+returns-clause-unread g c =
+    let words = map string_bytes c.args.words.now in
+    let world = seen_world g.S.Source g.O.Sink g.H.Shelf g.P.Spool g.K.Keeper in
+    let old = world c.args.input.now c.args.out.now c.args.shelf.now c.args.spool.now c.args.keeper.now in
+    let new = world c.run_words.new.input c.run_words.new.out c.args.shelf.now c.args.spool.now c.args.keeper.now in
+    λ usage. c.run_words.ensures.unread ((is_run words old new c.run_words.result (c.run_words.ensures.ends old new) c.run_words.ensures.reads).usage.0 (sym c.status_of.ensures ∙ usage))

@@ -1,4 +1,4 @@
-use Rattle.std.proofs.Common.{◌∙◌, ap, sym, subst}
+use Rattle.std.proofs.Common.{◌∙◌, ap, sym}
 use Rattle.rm_rules.specs.State.{State}
 use Rattle.rm_rules.specs.Step.{Outcome}
 use Rattle.machine.proofs.Entering.{unsettled, step-entered, step-quiet, moved-quiet, healthy-moved}

@@ -1,4 +1,3 @@
-use Rattle.std.proofs.Common.{arith}
 use Rattle.rm_rules.proofs.Answering.{numbers-fit}
 use Rattle.machine.proofs.Submitting.{room_waiting, next-absent, submit-refused, submit-accepted}
 use Rattle.machine.proofs.machine.Machine.submit.Goals as goal

@@ -1,11 +1,10 @@
 use Rattle.std.proofs.Common.{◌≡◌, sym, subst}
-use Rattle.std.specs.Prelude.{IfOk}
 use Rattle.sessions.specs.declared.command.Command.{Command}
 use Rattle.sessions.specs.Commands.{seen_command}
-use Rattle.sessions.specs.Script.{turn}
 use Rattle.sessions.specs.Running.{seen_script, seen_turn}
+use Rattle.sessions.specs.Turns.{turn}
 use Rattle.sessions.proofs.script.Script.take_command.Goals as goal
 
-pub returns-in-Open : goal.returns-in-Open
-returns-in-Open c =
-    subst (λ (k : Command). IfOk c.open.result (λ t. seen_turn t (seen_script c.open.new.self) ≡ turn (seen_script c.args.self.now) (seen_command k))) (sym c.in-Open.is) c.open.ensures
+pub returns-in_ok-open-in-Open-clause-turn : goal.returns-in_ok-open-in-Open-clause-turn
+returns-in_ok-open-in-Open-clause-turn c =
+    subst (λ (k : Command). seen_turn c.in_ok-open-in-Open.field-0 (seen_script c.open.new.self) ≡ turn (seen_script c.args.self.now) (seen_command k)) (sym c.in-Open.is) c.in_ok-open-in-Open.ensures

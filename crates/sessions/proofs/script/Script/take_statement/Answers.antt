@@ -4,7 +4,7 @@ use Rattle.rm_base.specs.declared.definitions.Definitions.{Definitions}
 use Rattle.rm_base.specs.declared.event.Event.TheVariants as event
 use Rattle.rm_rules.specs.Acceptance.{accepted, is_judged}
 use Rattle.rm_rules.specs.Step.{step}
-use Rattle.sessions.specs.Script.{ScriptState, Goes}
+use Rattle.sessions.specs.Turns.{ScriptState, Goes}
 use Rattle.sessions.specs.Running.{seen_script}
 use Rattle.sessions.specs.Texts.{bare_text}
 use Rattle.sessions.proofs.StatementLemmas.{statement-ok}
