@@ -209,3 +209,11 @@ whole-raw catalog k raw ws so_far whole =
 pub spells-raw : (catalog : List CatalogTable) (ws : List Word) (raw : RawSelect) → Spells catalog ws raw → IsRaw catalog raw
 spells-raw catalog _ _ (unended k raw ws so_far whole) = whole-raw catalog k raw ws so_far whole
 spells-raw catalog _ _ (ended k raw a ws so_far whole) = whole-raw catalog k raw ws so_far whole
+
+whole-one_table : (catalog : List CatalogTable) (k : Clause) (raw : RawSelect) (ws : List Word) → IsSelect catalog k raw ws → is_whole k ≡ true
+    → length raw.tables ≡ 1
+whole-one_table catalog k raw ws so_far whole = (select-kept catalog k raw ws so_far).tables ∙ whole_clause k whole
+
+pub spells-one_table : (catalog : List CatalogTable) (ws : List Word) (raw : RawSelect) → Spells catalog ws raw → length raw.tables ≡ 1
+spells-one_table catalog _ _ (unended k raw ws so_far whole) = whole-one_table catalog k raw ws so_far whole
+spells-one_table catalog _ _ (ended k raw a ws so_far whole) = whole-one_table catalog k raw ws so_far whole

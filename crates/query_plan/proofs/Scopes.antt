@@ -59,14 +59,14 @@ narrow-found catalog name found narrow h =
     within m n h = grind (arith, nat_tests)
 
 -- a table's columns stand first
-record Split (n : ℕ) (t : RawTable) (o : Option CatalogTable) (r : Result (List Here) Refusal) (scope : List Here) : Type 0 where
-  found : CatalogTable
-  more : List Here
-  is : o ≡ Some found
-  rest : r ≡ Ok more
-  whole : scope ≡ columns_here n t.call found.columns ++ more
+pub record Split (n : ℕ) (t : RawTable) (o : Option CatalogTable) (r : Result (List Here) Refusal) (scope : List Here) : Type 0 where
+  pub found : CatalogTable
+  pub more : List Here
+  pub is : o ≡ Some found
+  pub rest : r ≡ Ok more
+  pub whole : scope ≡ columns_here n t.call found.columns ++ more
 
-split : (n : ℕ) (t : RawTable) (o : Option CatalogTable) (r : Result (List Here) Refusal) (scope : List Here) → with_table n t o r ≡ Ok scope
+pub split : (n : ℕ) (t : RawTable) (o : Option CatalogTable) (r : Result (List Here) Refusal) (scope : List Here) → with_table n t o r ≡ Ok scope
     → Split n t o r scope
 split n t None r scope h = absurd (err_ok _ scope h)
 split n t (Some found) (Err why) scope h = absurd (err_ok why scope h)
@@ -78,7 +78,7 @@ split n t (Some found) (Ok more) scope h = record {
   whole = sym (ok_is (columns_here n t.call found.columns ++ more) scope h);
 }
 
-split-length : (n : ℕ) (t : RawTable) (o : Option CatalogTable) (r : Result (List Here) Refusal) (scope : List Here) (s : Split n t o r scope)
+pub split-length : (n : ℕ) (t : RawTable) (o : Option CatalogTable) (r : Result (List Here) Refusal) (scope : List Here) (s : Split n t o r scope)
     → length scope ≡ length s.found.columns + length s.more
 split-length n t o r scope s =
     ap length s.whole ∙ length-append (columns_here n t.call s.found.columns) s.more
@@ -122,12 +122,12 @@ within-true m n h = grind (arith, nat_tests)
 within-is : (m n : ℕ) → nat_le m n ≡ true → m ≤ n
 within-is m n h = grind (arith, nat_tests)
 
-third_true : (a b c : Bool) → (a && b && c) ≡ true → c ≡ true
+pub third_true : (a b c : Bool) → (a && b && c) ≡ true → c ≡ true
 third_true true true c h = h
 third_true true false c h = absurd cc
 third_true false b c h = absurd cc
 
-counts-names : (catalog : List CatalogTable) (raw : RawSelect) (scope : List Here) (o : Option ℕ) (n : ℕ) → scope_from catalog 0 raw.tables ≡ Ok scope
+pub counts-names : (catalog : List CatalogTable) (raw : RawSelect) (scope : List Here) (o : Option ℕ) (n : ℕ) → scope_from catalog 0 raw.tables ≡ Ok scope
     → counts_within catalog raw o n ≡ true → n ≤ length (names_of scope o raw.items)
 counts-names catalog raw scope None n h counts = omega (arith, within-is n (length raw.items) counts, length-map raw.items item_name)
 counts-names catalog raw scope (Some place) n h counts =

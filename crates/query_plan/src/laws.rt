@@ -4,8 +4,9 @@ ghost use Rattle.std.specs.Prelude.{◌≡◌, ◌↔◌, ℕ, Ok, Err, List};
 ghost use Rattle.rm_base.specs.declared.catalog.CatalogTable.{CatalogTable};
 ghost use Rattle.rm_base.specs.declared.refusal.Refusal.{Refusal};
 ghost use Rattle.rm_base.specs.declared.select.Select.{Select};
+ghost use Rattle.query_plan.specs.Fitting.{FitsCatalog};
 ghost use Rattle.query_plan.specs.Reading.{read_of};
-ghost use Rattle.query_plan.specs.Text.{IsRefused, SpellsText};
+ghost use Rattle.query_plan.specs.Text.{IsRefused, IsSpelled, SpellsText};
 
 /// A text is one plan at most.
 pub fn one_plan()
@@ -35,4 +36,10 @@ pub fn read_of_spells()
 pub fn read_of_refused()
     ensures { (catalog : List CatalogTable) (text : List ℕ) (refusal : Refusal)
         → read_of catalog text ≡ Err refusal ↔ IsRefused catalog text refusal }
+{}
+
+/// A plan fits the tables of the catalog that it names.
+pub fn spelled_plans_fit()
+    ensures { (catalog : List CatalogTable) (plan : Select)
+        → IsSpelled catalog plan → FitsCatalog catalog plan }
 {}
