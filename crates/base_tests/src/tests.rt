@@ -1,5 +1,6 @@
 mod base;
 mod outside;
+mod selects;
 mod statements;
 mod words;
 

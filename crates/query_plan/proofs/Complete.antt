@@ -1,5 +1,5 @@
 -- every SELECT is read
-use Rattle.std.proofs.Common.{◌≡◌, ℕ, Bool, true, false, if◌then◌else◌, Option, Some, None, Ok, Err, List, [], ◌∷◌, ◌++◌, refl, sym, ◌∙◌, ap, subst, append_assoc, codes}
+use Rattle.std.proofs.Common.{◌≡◌, ℕ, true, false, if◌then◌else◌, Option, Some, None, Ok, List, [], ◌∷◌, ◌++◌, refl, ◌∙◌, ap, codes}
 use Rattle.rm_base.specs.declared.catalog.CatalogTable.{CatalogTable}
 use Rattle.rm_base.specs.declared.name.Name.{Name}
 use Rattle.rm_words.specs.declared.token.Symbol.TheVariants as symbol
@@ -19,7 +19,6 @@ use Rattle.query_plan.specs.declared.part.Turn.{Turn}
 use Rattle.query_plan.specs.declared.part.Turn.TheVariants.{Goes, Ends, Stops}
 use Rattle.query_plan.specs.declared.progress.Progress.{Progress}
 use Rattle.query_plan.specs.declared.progress.Progress.TheVariants.{Start, In, Ordering, Ended}
-use Rattle.query_plan.specs.declared.raw.KeyBy.{KeyBy}
 use Rattle.query_plan.specs.declared.raw.RawOperand.TheVariants as operand
 use Rattle.query_plan.specs.declared.raw.RawPart.{RawPart}
 use Rattle.query_plan.specs.declared.raw.RawPart.TheVariants as part
@@ -27,9 +26,8 @@ use Rattle.query_plan.specs.declared.raw.RawSelect.{RawSelect}
 use Rattle.query_plan.specs.declared.raw.Reference.{Reference}
 use Rattle.query_plan.specs.declared.raw.Slot.{Slot}
 use Rattle.query_plan.specs.declared.raw.Slot.TheVariants as slot
-use Rattle.query_plan.specs.Raw.{added, empty, has_room}
 use Rattle.query_plan.specs.Word.{Word, key_at, sign_at}
-use Rattle.query_plan.specs.Grammar.{IsSelect, nothing, more, Leads, select, item_comma, from, filter, and, order_by, key_comma, limit_to, Spells, unended, ended, IsWholeOrFull, whole, full, IsFront, bare_column, clause_of, is_list, is_unlimited, is_unordered, is_whole}
+use Rattle.query_plan.specs.Grammar.{IsSelect, nothing, more, Leads, select, item_comma, from, filter, and, order_by, key_comma, limit_to, Spells, unended, ended, IsWholeOrFull, whole, full, IsFront, bare_column, is_list, is_unlimited, is_unordered, is_whole}
 use Rattle.query_plan.specs.Machine.{called_turn, column_turn, finish, closed, is_dot, item_of, led, or_stops, part_of, reader, step, test_of, turn, turned, unqualified_part, unqualified_turn}
 use Rattle.query_plan.proofs.PartsRead.{go, on_goes, part-read}
 

@@ -1,5 +1,5 @@
 -- what is read is a front
-use Rattle.std.proofs.Common.{◌≡◌, ℕ, nat_lt, Bool, true, false, Option, Some, None, Ok, List, [], ◌∷◌, ◌++◌, length, refl, sym, ◌∙◌, ap, subst, append_assoc, append-nil, codes}
+use Rattle.std.proofs.Common.{◌≡◌, ℕ, nat_lt, Bool, true, false, Some, None, Ok, List, [], ◌∷◌, ◌++◌, length, refl, sym, ◌∙◌, ap, subst, append_assoc, append-nil, codes}
 use Rattle.rm_base.specs.declared.catalog.CatalogTable.{CatalogTable}
 use Rattle.rm_base.specs.declared.limits.TheConstants.{ORDER_KEYS_MOST}
 use Rattle.rm_base.specs.declared.name.Name.{Name}
@@ -12,7 +12,6 @@ use Rattle.query_plan.specs.declared.part.Clause.TheVariants as clause
 use Rattle.query_plan.specs.declared.part.Partial.{Partial}
 use Rattle.query_plan.specs.declared.part.Partial.TheVariants as partial
 use Rattle.query_plan.specs.declared.part.Purpose.{Purpose}
-use Rattle.query_plan.specs.declared.part.Purpose.TheVariants as purpose
 use Rattle.query_plan.specs.declared.part.Side.{Side}
 use Rattle.query_plan.specs.declared.part.Side.TheVariants as side
 use Rattle.query_plan.specs.declared.progress.Progress.{Progress}
@@ -32,11 +31,11 @@ use Rattle.query_plan.specs.declared.raw.Slot.{Slot}
 use Rattle.query_plan.specs.declared.raw.Slot.TheVariants as slot
 use Rattle.query_plan.specs.Raw.{added, empty, has_room}
 use Rattle.query_plan.specs.Word.{Word, key_at, name_at, number_at, sign_at}
-use Rattle.query_plan.specs.Grammar.{IsColumn, unqualified, qualified, IsItem, unnamed, named_as, IsTable, uncalled, called_as, IsOperand, of_column, of_number, of_negative, IsTest, compared, by_name, undirected, IsPart, all, item, table, test, key, limit, IsSelect, nothing, more, Leads, select, from, order_by, Spells, unended, IsWholeOrFull, whole, full, IsFront, bare_column, clause_of, is_whole, qualified_column, takes_item}
-use Rattle.query_plan.specs.Machine.{column_read, operand_read, part_of, reader, test_of}
+use Rattle.query_plan.specs.Grammar.{IsColumn, unqualified, qualified, unnamed, named_as, uncalled, called_as, IsOperand, of_column, of_negative, IsTest, compared, by_name, undirected, IsPart, all, item, table, test, key, limit, IsSelect, nothing, more, Leads, select, from, order_by, unended, IsWholeOrFull, whole, full, IsFront, bare_column, clause_of, is_whole, qualified_column, takes_item}
+use Rattle.query_plan.specs.Machine.{part_of, reader, test_of}
 use Rattle.query_plan.proofs.Parts.{IsBeside, beside_left, beside_right, IsBefore, before_item, before_operand, IsNamed, is_named, IsDotted, is_dotted, IsColumnAs, is_column_as, IsMinus, is_minus, IsPartial, partial-part}
 use Rattle.query_plan.proofs.Kept.{select-kept, unordered_clause}
-use Rattle.query_plan.proofs.Means.{IsIn, IsOrdering, Means, is_due, sound}
+use Rattle.query_plan.proofs.Means.{IsIn, IsOrdering, Means, sound}
 
 -- some words make a part of these
 record PartFront (catalog : List CatalogTable) (raw : RawSelect) (s : Slot) (ws : List Word) : Type 0 where

@@ -12,10 +12,9 @@ use Rattle.query_plan.specs.declared.raw.RawKey.{RawKey}
 use Rattle.query_plan.specs.declared.raw.RawPart.{RawPart}
 use Rattle.query_plan.specs.declared.raw.RawSelect.{RawSelect}
 use Rattle.query_plan.specs.declared.raw.Slot.{Slot}
-use Rattle.query_plan.specs.declared.raw.Slot.TheVariants as slot
-use Rattle.query_plan.specs.Raw.{added, empty, has_room}
+use Rattle.query_plan.specs.Raw.{added, has_room}
 use Rattle.query_plan.specs.Word.{Word}
-use Rattle.query_plan.specs.Grammar.{IsKey, undirected, rising, falling, IsKeyBy, by_name, by_number, IsPart, all, item, table, test, key, limit, IsSelect, nothing, more, Leads, select, item_comma, from, filter, and, order_by, key_comma, limit_to, Spells, unended, ended, clause_of, is_list, is_unlimited, is_unordered, is_whole, takes_item}
+use Rattle.query_plan.specs.Grammar.{IsKey, undirected, rising, falling, IsKeyBy, by_name, by_number, IsPart, all, item, table, test, key, limit, IsSelect, nothing, more, Leads, select, item_comma, from, filter, and, order_by, key_comma, limit_to, Spells, unended, ended, clause_of, is_list, is_unlimited, is_unordered, is_whole}
 use Rattle.query_plan.specs.Resolving.{IsRaw, is_key_listed}
 
 -- how many tables stand before the end of a clause
@@ -210,3 +209,11 @@ whole-raw catalog k raw ws so_far whole =
 pub spells-raw : (catalog : List CatalogTable) (ws : List Word) (raw : RawSelect) → Spells catalog ws raw → IsRaw catalog raw
 spells-raw catalog _ _ (unended k raw ws so_far whole) = whole-raw catalog k raw ws so_far whole
 spells-raw catalog _ _ (ended k raw a ws so_far whole) = whole-raw catalog k raw ws so_far whole
+
+whole-one_table : (catalog : List CatalogTable) (k : Clause) (raw : RawSelect) (ws : List Word) → IsSelect catalog k raw ws → is_whole k ≡ true
+    → length raw.tables ≡ 1
+whole-one_table catalog k raw ws so_far whole = (select-kept catalog k raw ws so_far).tables ∙ whole_clause k whole
+
+pub spells-one_table : (catalog : List CatalogTable) (ws : List Word) (raw : RawSelect) → Spells catalog ws raw → length raw.tables ≡ 1
+spells-one_table catalog _ _ (unended k raw ws so_far whole) = whole-one_table catalog k raw ws so_far whole
+spells-one_table catalog _ _ (ended k raw a ws so_far whole) = whole-one_table catalog k raw ws so_far whole

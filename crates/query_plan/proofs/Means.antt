@@ -1,8 +1,8 @@
 -- what the words of a SELECT so far are, by where the reading of them is
-use Rattle.std.proofs.Common.{◌≡◌, ℕ, Bool, true, false, if◌then◌else◌, Option, Some, None, Ok, Err, List, [], ◌∷◌, ◌++◌, refl, sym, ◌∙◌, ap, subst, append_assoc, append-nil, codes}
+use Rattle.std.proofs.Common.{◌≡◌, ℕ, Bool, true, false, if◌then◌else◌, Option, Some, None, Ok, List, [], ◌∷◌, ◌++◌, refl, sym, ◌∙◌, ap, subst, append_assoc, append-nil, codes}
 use Rattle.rm_base.specs.declared.catalog.CatalogTable.{CatalogTable}
 use Rattle.rm_words.specs.declared.token.Symbol.TheVariants as symbol
-use Rattle.rm_words.specs.Token.{Token, is_key}
+use Rattle.rm_words.specs.Token.{is_key}
 use Rattle.rm_words.specs.Reading.{onward, run}
 use Rattle.rm_words.proofs.Results.{some_is, none_some, ok_is, err_ok}
 use Rattle.query_plan.specs.declared.part.Clause.{Clause}
@@ -19,7 +19,7 @@ use Rattle.query_plan.specs.declared.raw.Slot.{Slot}
 use Rattle.query_plan.specs.declared.raw.Slot.TheVariants as slot
 use Rattle.query_plan.specs.Raw.{added, empty, has_room}
 use Rattle.query_plan.specs.Word.{Word, key_at, sign_at}
-use Rattle.query_plan.specs.Grammar.{IsSelect, nothing, more, Leads, select, item_comma, from, filter, and, order_by, key_comma, limit_to, Spells, unended, ended, clause_of, is_list, is_unlimited, is_unordered, is_whole}
+use Rattle.query_plan.specs.Grammar.{IsSelect, nothing, more, Leads, select, item_comma, from, filter, and, order_by, key_comma, limit_to, Spells, unended, ended, clause_of, is_unlimited, is_unordered, is_whole}
 use Rattle.query_plan.specs.Machine.{Edge, Mark, Key, Comma, Semicolon, begun, closed, edges, finish, is_mark, last_edges, led, on_edge, or_stops, part_of, reader, step, turn, turned, unlimited_edges, unordered_edges}
 use Rattle.query_plan.proofs.Parts.{IsPartial, partial-part}
 use Rattle.query_plan.proofs.Tokens.{goes-some, word-comma, word-key, word-semicolon}
@@ -114,15 +114,17 @@ last-lead catalog raw k us so_far whole = (λ a. ended k raw a us so_far whole, 
 
 unlimited-lead : (catalog : List CatalogTable) (raw : RawSelect) (k : Clause) (us : List Word) → IsSelect catalog k raw us → is_unlimited k ≡ true
     → is_whole k ≡ true → Lead catalog us (unlimited_edges raw)
-unlimited-lead catalog raw k us so_far open_end whole =
-    (λ a. due-means catalog raw k slot.Limit us (key_at a (codes "LIMIT") ∷ []) so_far (limit_to k a open_end),
-    last-lead catalog raw k us so_far whole)
+unlimited-lead catalog raw k us so_far open_end whole = (
+  λ a. due-means catalog raw k slot.Limit us (key_at a (codes "LIMIT") ∷ []) so_far (limit_to k a open_end),
+  last-lead catalog raw k us so_far whole,
+)
 
 unordered-lead : (catalog : List CatalogTable) (raw : RawSelect) (k : Clause) (us : List Word) → IsSelect catalog k raw us → is_unordered k ≡ true
     → is_unlimited k ≡ true → is_whole k ≡ true → Lead catalog us (unordered_edges raw)
-unordered-lead catalog raw k us so_far open_order open_end whole =
-    (λ a. record { behind = k; front = us; place = a; selects = so_far; unordered = open_order; are = refl },
-    unlimited-lead catalog raw k us so_far open_end whole)
+unordered-lead catalog raw k us so_far open_order open_end whole = (
+  λ a. record { behind = k; front = us; place = a; selects = so_far; unordered = open_order; are = refl },
+  unlimited-lead catalog raw k us so_far open_end whole,
+)
 
 edges-lead : (catalog : List CatalogTable) (raw : RawSelect) (k : Clause) (us : List Word) → IsSelect catalog k raw us
     → Lead catalog us (edges raw k)
@@ -130,18 +132,22 @@ edges-lead catalog raw clause.Begin us so_far =
     (λ a. due-means catalog raw clause.Begin slot.List us (key_at a (codes "SELECT") ∷ []) so_far (select a), tt)
 edges-lead catalog raw clause.All us so_far =
     (λ a. due-means catalog raw clause.All slot.Table us (key_at a (codes "FROM") ∷ []) so_far (from clause.All a refl), tt)
-edges-lead catalog raw clause.Items us so_far =
-    (λ a. due-means catalog raw clause.Items slot.Item us (sign_at a symbol.Comma ∷ []) so_far (item_comma a),
-    (λ a. due-means catalog raw clause.Items slot.Table us (key_at a (codes "FROM") ∷ []) so_far (from clause.Items a refl), tt))
-edges-lead catalog raw clause.Tables us so_far =
-    (λ a. due-means catalog raw clause.Tables slot.Test us (key_at a (codes "WHERE") ∷ []) so_far (filter a),
-    unordered-lead catalog raw clause.Tables us so_far refl refl refl)
-edges-lead catalog raw clause.Tests us so_far =
-    (λ a. due-means catalog raw clause.Tests slot.Test us (key_at a (codes "AND") ∷ []) so_far (and a),
-    unordered-lead catalog raw clause.Tests us so_far refl refl refl)
-edges-lead catalog raw clause.Keys us so_far =
-    (λ a. due-means catalog raw clause.Keys slot.Key us (sign_at a symbol.Comma ∷ []) so_far (key_comma a),
-    unlimited-lead catalog raw clause.Keys us so_far refl refl)
+edges-lead catalog raw clause.Items us so_far = (
+  λ a. due-means catalog raw clause.Items slot.Item us (sign_at a symbol.Comma ∷ []) so_far (item_comma a),
+  (λ a. due-means catalog raw clause.Items slot.Table us (key_at a (codes "FROM") ∷ []) so_far (from clause.Items a refl), tt),
+)
+edges-lead catalog raw clause.Tables us so_far = (
+  λ a. due-means catalog raw clause.Tables slot.Test us (key_at a (codes "WHERE") ∷ []) so_far (filter a),
+  unordered-lead catalog raw clause.Tables us so_far refl refl refl,
+)
+edges-lead catalog raw clause.Tests us so_far = (
+  λ a. due-means catalog raw clause.Tests slot.Test us (key_at a (codes "AND") ∷ []) so_far (and a),
+  unordered-lead catalog raw clause.Tests us so_far refl refl refl,
+)
+edges-lead catalog raw clause.Keys us so_far = (
+  λ a. due-means catalog raw clause.Keys slot.Key us (sign_at a symbol.Comma ∷ []) so_far (key_comma a),
+  unlimited-lead catalog raw clause.Keys us so_far refl refl,
+)
 edges-lead catalog raw clause.Limited us so_far = last-lead catalog raw clause.Limited us so_far refl
 
 led-means : (catalog : List CatalogTable) (raw : RawSelect) (k : Clause) (us : List Word) (w : Word) (q : Progress) → IsSelect catalog k raw us

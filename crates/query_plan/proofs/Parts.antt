@@ -1,15 +1,11 @@
 -- what the words of a part so far are
-use Rattle.std.proofs.Common.{◌≡◌, ℕ, ℤ, Bool, true, false, nat_le, if◌then◌else◌, Option, Some, None, option_map, List, [], ◌∷◌, ◌++◌, refl, sym, ◌∙◌, ap, subst, append_assoc, codes}
+use Rattle.std.proofs.Common.{◌≡◌, ℕ, true, false, nat_le, Some, List, [], ◌∷◌, ◌++◌, refl, sym, subst, codes}
 use Rattle.rm_base.specs.declared.catalog.CatalogTable.{CatalogTable}
 use Rattle.rm_base.specs.declared.limits.TheConstants.{LIMIT_MOST}
 use Rattle.rm_base.specs.declared.name.Name.{Name}
 use Rattle.rm_base.specs.declared.select.Op.{Op}
 use Rattle.rm_words.specs.declared.token.Symbol.{Symbol}
 use Rattle.rm_words.specs.declared.token.Symbol.TheVariants as symbol
-use Rattle.rm_words.specs.Names.{key, name, name_of}
-use Rattle.rm_words.specs.Token.{Token, Bare, Number, Quoted, Sign, is_key, undoubled}
-use Rattle.rm_words.proofs.Keys.{is_key-eq}
-use Rattle.rm_words.proofs.NameLemmas.{name_of-eq}
 use Rattle.rm_words.proofs.Results.{some_is, none_some}
 use Rattle.query_plan.specs.declared.part.Partial.{Partial}
 use Rattle.query_plan.specs.declared.part.Partial.TheVariants as partial
@@ -17,11 +13,6 @@ use Rattle.query_plan.specs.declared.part.Purpose.{Purpose}
 use Rattle.query_plan.specs.declared.part.Purpose.TheVariants as purpose
 use Rattle.query_plan.specs.declared.part.Side.{Side}
 use Rattle.query_plan.specs.declared.part.Side.TheVariants as side
-use Rattle.query_plan.specs.declared.part.Turn.{Turn}
-use Rattle.query_plan.specs.declared.part.Turn.TheVariants.{Goes, Ends, Stops}
-use Rattle.query_plan.specs.declared.raw.KeyBy.{KeyBy}
-use Rattle.query_plan.specs.declared.raw.KeyBy.TheVariants as by
-use Rattle.query_plan.specs.declared.raw.RawItem.{RawItem}
 use Rattle.query_plan.specs.declared.raw.RawKey.{RawKey}
 use Rattle.query_plan.specs.declared.raw.RawOperand.{RawOperand}
 use Rattle.query_plan.specs.declared.raw.RawOperand.TheVariants as operand
@@ -33,11 +24,9 @@ use Rattle.query_plan.specs.declared.raw.RawTest.{RawTest}
 use Rattle.query_plan.specs.declared.raw.Reference.{Reference}
 use Rattle.query_plan.specs.declared.raw.Slot.{Slot}
 use Rattle.query_plan.specs.declared.raw.Slot.TheVariants as slot
-use Rattle.query_plan.specs.Raw.{has_room}
-use Rattle.query_plan.specs.Scope.{is_listed}
-use Rattle.query_plan.specs.Word.{Word, key_at, name_at, number_at, quoted_at, sign_at}
-use Rattle.query_plan.specs.Grammar.{IsColumn, unqualified, qualified, IsItem, unnamed, named_as, IsTable, uncalled, called, called_as, IsOperand, of_column, of_number, of_negative, of_text, IsTest, compared, IsKeyBy, by_name, by_number, IsKey, undirected, rising, falling, IsPart, all, item, table, test, key as key_part, limit, bare_column, int_of, negative_of, op_of, qualified_column, takes_item}
-use Rattle.query_plan.specs.Machine.{alias_turn, begun, begun_in, call_turn, called_turn, column_read, column_turn, dotted_turn, goes, int_read, is_dot, item_begun, item_of, key_begun, key_turn, left_turn, limit_begun, list_begun, minus_turn, named_turn, op_in, operand_begun, operand_read, part_of, table_turn, test_of, turn, unqualified_part, unqualified_turn}
+use Rattle.query_plan.specs.Word.{Word, key_at, name_at, number_at, sign_at}
+use Rattle.query_plan.specs.Grammar.{IsColumn, unqualified, IsItem, unnamed, IsTable, uncalled, IsOperand, of_column, IsTest, compared, IsKeyBy, IsKey, undirected, IsPart, all, item, table, test, key as key_part, limit, bare_column, op_of, takes_item}
+use Rattle.query_plan.specs.Machine.{column_read, item_of, operand_read, part_of, test_of, unqualified_part}
 
 -- what stands before an operand: nothing, or the left one and the operator
 pub data IsBeside : Side → List Word → Type 0 where

@@ -1,14 +1,13 @@
 -- every part of a SELECT is read
-use Rattle.std.proofs.Common.{◌≡◌, ℕ, ℤ, Bool, true, false, nat_le, if◌then◌else◌, Option, Some, None, option_map, List, [], ◌∷◌, ◌++◌, refl, sym, ◌∙◌, ap, subst, append_assoc, codes}
+use Rattle.std.proofs.Common.{◌≡◌, ℕ, Bool, true, false, if◌then◌else◌, Option, Some, None, option_map, List, [], ◌∷◌, ◌++◌, refl, sym, ◌∙◌, ap, codes}
 use Rattle.rm_base.specs.declared.catalog.CatalogTable.{CatalogTable}
-use Rattle.rm_base.specs.declared.limits.TheConstants.{LIMIT_MOST}
 use Rattle.rm_base.specs.declared.name.Name.{Name}
 use Rattle.rm_base.specs.declared.select.Op.{Op}
 use Rattle.rm_base.specs.Name.{name_text}
 use Rattle.rm_words.specs.declared.token.Symbol.{Symbol}
 use Rattle.rm_words.specs.declared.token.Symbol.TheVariants as symbol
-use Rattle.rm_words.specs.Names.{key, name, name_called, name_of}
-use Rattle.rm_words.specs.Token.{Token, Bare, Number, Quoted, Sign, folded, is_key, undoubled}
+use Rattle.rm_words.specs.Names.{name, name_called, name_of}
+use Rattle.rm_words.specs.Token.{Bare, Sign, folded, is_key, undoubled}
 use Rattle.rm_words.proofs.Keys.{is_key-eq}
 use Rattle.rm_words.proofs.NameLemmas.{name_called-text}
 use Rattle.rm_words.proofs.Results.{some_is, none_some}
@@ -35,10 +34,9 @@ use Rattle.query_plan.specs.declared.raw.Reference.{Reference}
 use Rattle.query_plan.specs.declared.raw.Slot.{Slot}
 use Rattle.query_plan.specs.declared.raw.Slot.TheVariants as slot
 use Rattle.query_plan.specs.Raw.{has_room}
-use Rattle.query_plan.specs.Scope.{is_listed}
 use Rattle.query_plan.specs.Word.{Word, key_at, name_at, number_at, quoted_at, sign_at}
-use Rattle.query_plan.specs.Grammar.{IsColumn, unqualified, qualified, IsItem, unnamed, named_as, IsTable, uncalled, called, called_as, IsOperand, of_column, of_number, of_negative, of_text, IsTest, compared, IsKeyBy, by_name, by_number, IsKey, undirected, rising, falling, IsPart, all, item, table, test, key as key_part, limit, bare_column, int_of, negative_of, op_of, qualified_column, takes_item}
-use Rattle.query_plan.specs.Machine.{alias_turn, begun, begun_in, call_turn, called_turn, column_read, column_turn, dotted_turn, goes, int_read, is_dot, item_of, left_turn, named_turn, op_in, operand_begun, operand_read, part_of, table_turn, test_of, turn, unqualified_part, unqualified_turn}
+use Rattle.query_plan.specs.Grammar.{IsColumn, unqualified, qualified, IsItem, unnamed, named_as, IsTable, uncalled, called, called_as, IsOperand, of_column, of_number, of_negative, of_text, IsTest, compared, IsKeyBy, by_name, by_number, IsKey, undirected, rising, falling, IsPart, all, item, table, test, key as key_part, limit, bare_column, op_of, qualified_column, takes_item}
+use Rattle.query_plan.specs.Machine.{alias_turn, begun_in, call_turn, called_turn, column_read, dotted_turn, goes, int_read, is_dot, operand_begun, operand_read, part_of, turn, unqualified_part, unqualified_turn}
 
 -- what a part's next words make of it, if they belong to it
 abbrev pub on_goes : Turn → (Partial → Option Partial) → Option Partial

@@ -1,5 +1,5 @@
 -- which word a word is that passed a test
-use Rattle.std.proofs.Common.{◌≡◌, ℕ, Bool, true, false, Option, Some, None, List, refl, ap}
+use Rattle.std.proofs.Common.{◌≡◌, ℕ, true, Option, Some, None, List, refl, ap}
 use Rattle.rm_base.specs.declared.name.Name.{Name}
 use Rattle.rm_words.specs.declared.token.Symbol.{Symbol}
 use Rattle.rm_words.specs.declared.token.Symbol.TheVariants as symbol
@@ -8,7 +8,6 @@ use Rattle.rm_words.specs.Token.{Token, Bare, Number, Quoted, Sign, is_key}
 use Rattle.rm_words.proofs.Keys.{is_key-eq}
 use Rattle.rm_words.proofs.NameLemmas.{name_of-eq}
 use Rattle.query_plan.specs.declared.part.Partial.{Partial}
-use Rattle.query_plan.specs.declared.part.Turn.{Turn}
 use Rattle.query_plan.specs.declared.part.Turn.TheVariants.{Goes, Ends, Stops}
 use Rattle.query_plan.specs.declared.raw.RawPart.{RawPart}
 use Rattle.query_plan.specs.Machine.{goes, is_comma, is_dot, is_semicolon}

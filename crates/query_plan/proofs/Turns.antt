@@ -1,10 +1,9 @@
 -- what a turn makes of a part so far
-use Rattle.std.proofs.Common.{◌≡◌, ℕ, ℤ, Bool, true, false, nat_le, if◌then◌else◌, Option, Some, None, option_map, List, [], ◌∷◌, ◌++◌, refl, sym, ◌∙◌, ap, subst, append_assoc, codes}
+use Rattle.std.proofs.Common.{◌≡◌, ℕ, ℤ, Bool, true, false, nat_le, if◌then◌else◌, Option, Some, None, option_map, List, [], ◌∷◌, ◌++◌, refl, sym, ap, subst, append_assoc, codes}
 use Rattle.rm_base.specs.declared.catalog.CatalogTable.{CatalogTable}
 use Rattle.rm_base.specs.declared.limits.TheConstants.{LIMIT_MOST}
 use Rattle.rm_base.specs.declared.name.Name.{Name}
 use Rattle.rm_base.specs.declared.select.Op.{Op}
-use Rattle.rm_words.specs.declared.token.Symbol.{Symbol}
 use Rattle.rm_words.specs.declared.token.Symbol.TheVariants as symbol
 use Rattle.rm_words.specs.Names.{name_of}
 use Rattle.rm_words.specs.Token.{Token, Bare, Number, Quoted, Sign, is_key, undoubled}
@@ -15,12 +14,10 @@ use Rattle.query_plan.specs.declared.part.Purpose.{Purpose}
 use Rattle.query_plan.specs.declared.part.Purpose.TheVariants as purpose
 use Rattle.query_plan.specs.declared.part.Side.{Side}
 use Rattle.query_plan.specs.declared.part.Side.TheVariants as side
-use Rattle.query_plan.specs.declared.part.Turn.{Turn}
-use Rattle.query_plan.specs.declared.part.Turn.TheVariants.{Goes, Ends, Stops}
+use Rattle.query_plan.specs.declared.part.Turn.TheVariants.{Goes, Ends}
 use Rattle.query_plan.specs.declared.raw.KeyBy.{KeyBy}
 use Rattle.query_plan.specs.declared.raw.KeyBy.TheVariants as by
 use Rattle.query_plan.specs.declared.raw.RawItem.{RawItem}
-use Rattle.query_plan.specs.declared.raw.RawKey.{RawKey}
 use Rattle.query_plan.specs.declared.raw.RawOperand.{RawOperand}
 use Rattle.query_plan.specs.declared.raw.RawOperand.TheVariants as operand
 use Rattle.query_plan.specs.declared.raw.RawPart.{RawPart}
@@ -33,8 +30,8 @@ use Rattle.query_plan.specs.declared.raw.Slot.TheVariants as slot
 use Rattle.query_plan.specs.Raw.{has_room}
 use Rattle.query_plan.specs.Scope.{is_listed}
 use Rattle.query_plan.specs.Word.{Word, key_at, name_at, number_at, quoted_at, sign_at}
-use Rattle.query_plan.specs.Grammar.{IsColumn, unqualified, qualified, IsItem, unnamed, named_as, IsTable, uncalled, called, called_as, IsOperand, of_column, of_number, of_negative, of_text, IsKeyBy, by_name, by_number, IsKey, undirected, rising, falling, bare_column, int_of, negative_of, op_of, qualified_column, takes_item}
-use Rattle.query_plan.specs.Machine.{alias_turn, begun, begun_in, call_turn, called_turn, column_read, column_turn, dotted_turn, goes, int_read, is_dot, item_begun, item_of, key_begun, key_turn, left_turn, limit_begun, list_begun, minus_turn, named_turn, op_in, operand_begun, operand_read, part_of, table_turn, test_of, turn, unqualified_part, unqualified_turn}
+use Rattle.query_plan.specs.Grammar.{IsColumn, unqualified, qualified, IsItem, named_as, IsTable, called, called_as, IsOperand, of_column, of_number, of_negative, of_text, IsKeyBy, by_name, by_number, IsKey, rising, falling, bare_column, int_of, negative_of, qualified_column, takes_item}
+use Rattle.query_plan.specs.Machine.{alias_turn, begun, begun_in, call_turn, called_turn, column_read, dotted_turn, goes, int_read, is_dot, item_begun, item_of, key_begun, limit_begun, list_begun, minus_turn, named_turn, op_in, operand_begun, operand_read, part_of, test_of, turn, unqualified_part, unqualified_turn}
 use Rattle.query_plan.proofs.Parts.{IsBeside, beside_left, beside_right, IsBefore, before_item, before_operand, IsNamed, is_named, IsDotted, is_dotted, IsColumnAs, is_column_as, IsMinus, is_minus, IsPartial, column-means, operand-means}
 use Rattle.query_plan.proofs.Tokens.{ends_goes, ends_is, goes-no_end, goes-some, goes_ends, goes_is, stops_ends, stops_goes, word-dot, word-key, word-name}
 
@@ -301,10 +298,11 @@ after-column_as : (catalog : List CatalogTable) (raw : RawSelect) (s : Slot) (a 
 after-column_as catalog raw s a r ws w q None is takes read h = absurd (stops_goes q h)
 after-column_as catalog raw s _ _ _ w q (Some n) is takes (is_column_as a b r us column) h =
     let i : RawItem = record { place = a; column = r; name = Some n } in
-    subst (λ y. IsPartial catalog raw s y ((us ++ key_at b (codes "AS") ∷ []) ++ w ∷ [])) (goes_is (partial.Item i) q h)
-    (takes,
-    subst (λ l. IsItem i l) (sym (append_assoc us (key_at b (codes "AS") ∷ []) (w ∷ [])))
-    (subst (λ v. IsItem i (us ++ key_at b (codes "AS") ∷ v ∷ [])) (sym (word-name w n is)) (named_as a b w.place r n us column)))
+    subst (λ y. IsPartial catalog raw s y ((us ++ key_at b (codes "AS") ∷ []) ++ w ∷ [])) (goes_is (partial.Item i) q h) (
+      takes,
+      subst (λ l. IsItem i l) (sym (append_assoc us (key_at b (codes "AS") ∷ []) (w ∷ [])))
+          (subst (λ v. IsItem i (us ++ key_at b (codes "AS") ∷ v ∷ [])) (sym (word-name w n is)) (named_as a b w.place r n us column)),
+    )
 
 after-table_name : (catalog : List CatalogTable) (raw : RawSelect) (n : Name) (a : ℕ) (w : Word) (q : Partial) (o : Option Name)
     → name_of w.says ≡ o → called_turn n o ≡ Goes q → IsPartial catalog raw slot.Table q (name_at a n ∷ w ∷ [])
@@ -326,9 +324,10 @@ after-table_as : (catalog : List CatalogTable) (raw : RawSelect) (n : Name) (a b
 after-table_as catalog raw n a b w q None is h = absurd (stops_goes q h)
 after-table_as catalog raw n a b w q (Some m) is h =
     let t : RawTable = record { name = n; call = m } in
-    subst (λ y. IsPartial catalog raw slot.Table y (name_at a n ∷ key_at b (codes "AS") ∷ w ∷ [])) (goes_is (partial.Table t) q h)
-    (refl,
-    subst (λ v. IsTable t (name_at a n ∷ key_at b (codes "AS") ∷ v ∷ [])) (sym (word-name w m is)) (called_as a b w.place n m))
+    subst (λ y. IsPartial catalog raw slot.Table y (name_at a n ∷ key_at b (codes "AS") ∷ w ∷ [])) (goes_is (partial.Table t) q h) (
+      refl,
+      subst (λ v. IsTable t (name_at a n ∷ key_at b (codes "AS") ∷ v ∷ [])) (sym (word-name w m is)) (called_as a b w.place n m),
+    )
 
 negative-goes : (catalog : List CatalogTable) (raw : RawSelect) (which : Side) (us : List Word) (a b n : ℕ) (q : Partial) (o : Option ℤ)
     → negative_of n ≡ o → IsBeside which us → goes (int_read which o) ≡ Goes q
@@ -354,13 +353,15 @@ after-key : (catalog : List CatalogTable) (raw : RawSelect) (k : KeyBy) (ws : Li
     else (if c then Goes (partial.Key (record { by = k; falling = true })) else Ends (part.Key (record { by = k; falling = false })))) ≡ Goes q
     → IsPartial catalog raw slot.Key q (ws ++ w ∷ [])
 after-key catalog raw k ws w q true c is is_desc by h =
-    subst (λ y. IsPartial catalog raw slot.Key y (ws ++ w ∷ [])) (goes_is (partial.Key (record { by = k; falling = false })) q h)
-    (refl,
-    subst (λ v. IsKey catalog raw (record { by = k; falling = false }) (ws ++ v ∷ [])) (sym (word-key w (codes "ASC") is)) (rising w.place k ws by))
+    subst (λ y. IsPartial catalog raw slot.Key y (ws ++ w ∷ [])) (goes_is (partial.Key (record { by = k; falling = false })) q h) (
+      refl,
+      subst (λ v. IsKey catalog raw (record { by = k; falling = false }) (ws ++ v ∷ [])) (sym (word-key w (codes "ASC") is)) (rising w.place k ws by),
+    )
 after-key catalog raw k ws w q false true is is_desc by h =
-    subst (λ y. IsPartial catalog raw slot.Key y (ws ++ w ∷ [])) (goes_is (partial.Key (record { by = k; falling = true })) q h)
-    (refl,
-    subst (λ v. IsKey catalog raw (record { by = k; falling = true }) (ws ++ v ∷ [])) (sym (word-key w (codes "DESC") is_desc)) (falling w.place k ws by))
+    subst (λ y. IsPartial catalog raw slot.Key y (ws ++ w ∷ [])) (goes_is (partial.Key (record { by = k; falling = true })) q h) (
+      refl,
+      subst (λ v. IsKey catalog raw (record { by = k; falling = true }) (ws ++ v ∷ [])) (sym (word-key w (codes "DESC") is_desc)) (falling w.place k ws by),
+    )
 after-key catalog raw k ws w q false false is is_desc by h = absurd (ends_goes (part.Key (record { by = k; falling = false })) q h)
 
 -- a turn keeps what the words are

@@ -5,4 +5,5 @@ pub mod Grammar
 pub mod Machine
 pub mod Resolving
 pub mod Text
+pub mod Fitting
 pub mod Reading

@@ -4,7 +4,6 @@ use Rattle.rm_base.specs.declared.catalog.CatalogTable.{CatalogTable}
 use Rattle.rm_base.specs.declared.limits.TheConstants.{LIMIT_MOST}
 use Rattle.rm_base.specs.declared.name.Name.{Name}
 use Rattle.rm_base.specs.declared.select.Op.{Op}
-use Rattle.rm_words.specs.declared.token.Symbol.{Symbol}
 use Rattle.rm_words.specs.declared.token.Symbol.TheVariants as symbol
 use Rattle.rm_words.specs.Names.{name_of}
 use Rattle.rm_words.specs.Token.{Token, Bare, Number, Quoted, Sign, is_key, undoubled}
@@ -29,7 +28,6 @@ use Rattle.query_plan.specs.declared.raw.RawOperand.TheVariants as operand
 use Rattle.query_plan.specs.declared.raw.RawPart.{RawPart}
 use Rattle.query_plan.specs.declared.raw.RawPart.TheVariants as part
 use Rattle.query_plan.specs.declared.raw.RawSelect.{RawSelect}
-use Rattle.query_plan.specs.declared.raw.RawTable.{RawTable}
 use Rattle.query_plan.specs.declared.raw.RawTest.{RawTest}
 use Rattle.query_plan.specs.declared.raw.Reference.{Reference}
 use Rattle.query_plan.specs.declared.raw.Slot.{Slot}

@@ -1,7 +1,7 @@
 ghost use Rattle.std.specs.Prelude.{◌≡◌, Ok, All, IfOk, IfErr};
 ghost use Rattle.rm_words.specs.Cut.{IsWordOf};
 ghost use Rattle.query_plan.specs.declared.progress.Progress.TheVariants.{Start};
-ghost use Rattle.query_plan.specs.Reading.{IsReadAsNone, IsReadError, ends, read_of, read_on};
+ghost use Rattle.query_plan.specs.Reading.{IsReadAsNone, IsReadError, ends, raw_of, read_of, read_on};
 ghost use Rattle.query_plan.specs.Resolving.{IsAnswer};
 ghost use Rattle.query_plan.specs.Text.{SpellsText};
 
@@ -74,6 +74,14 @@ fn read_words(
     end_of(catalog, progress, text, stuck)
 }
 
+/// The SELECT that the words of a text are.
+fn read_raw(alloc: Global, catalog: &Catalog, text: &str) -> Result<RawSelect, ReadError>
+    ensures { IsAnswer (raw_of catalog.now text.now) result }
+{
+    let Cut { words, stuck } = cut(alloc, text.as_bytes())?;
+    read_words(alloc, catalog, text, words.as_slice(), stuck)
+}
+
 /// Reads a SELECT over the tables of a catalog.
 pub fn read_select(alloc: Global, text: &str, catalog: &Catalog) -> Result<Plan, ReadError>
     ensures plan { IfOk result (SpellsText catalog.now text.now) }
@@ -81,8 +89,7 @@ pub fn read_select(alloc: Global, text: &str, catalog: &Catalog) -> Result<Plan,
     ensures read { IfOk result (λ plan. read_of catalog.now text.now ≡ Ok plan) }
     ensures read_as_none { IfErr result (IsReadAsNone catalog.now text.now) }
 {
-    let Cut { words, stuck } = cut(alloc, text.as_bytes())?;
-    match read_words(alloc, catalog, text, words.as_slice(), stuck) {
+    match read_raw(alloc, catalog, text) {
         Ok(raw) => resolved(alloc, catalog, &raw),
         Err(error) => Err(error),
     }

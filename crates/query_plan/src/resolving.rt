@@ -265,11 +265,7 @@ fn all_items(alloc: Global, scope: &[Here]) -> Result<Listed<Item>, AllocError>
 }
 
 /// The output columns.
-fn items_of(
-    alloc: Global,
-    raw: &RawSelect,
-    scope: &[Here],
-) -> Result<Listed<Item>, ReadError>
+fn items_of(alloc: Global, raw: &RawSelect, scope: &[Here]) -> Result<Listed<Item>, ReadError>
     requires { length scope.now ≤ ROW_VALUES_MOST }
     ensures { IsAnswer (items_of raw.now.tables scope.now raw.now.all raw.now.items) result }
 {

@@ -26,7 +26,10 @@ pub struct Found {
 pub fn table_named(catalog: &Catalog, name: Name) -> Option<&CatalogTable>
     ensures { option_copied result ≡ table_named catalog.now name }
 {
-    catalog.as_slice().iter().find(|table| table.name.same(name))
+    catalog
+        .as_slice()
+        .iter()
+        .find(|table| table.name.same(name))
 }
 
 /// Whether a number counts no further than the columns of the tables; where one of them is unknown, any does.

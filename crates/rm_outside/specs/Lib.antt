@@ -6,3 +6,4 @@ pub mod Spool
 pub mod Slots
 pub mod Ranges
 pub mod Stored
+pub mod Watch

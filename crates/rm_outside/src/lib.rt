@@ -1,4 +1,5 @@
-//! What the host asks of the world outside: input, output, files, spill files and the store.
+//! What the host asks of the world outside: input, output, files, spill files and the store,
+//! and whether work may go on.
 #![tactic(auto)]
 
 pub mod call_plan;
@@ -11,8 +12,11 @@ pub mod memory_shelf;
 pub mod memory_sink;
 pub mod memory_source;
 pub mod memory_spool;
+pub mod memory_watch;
 pub mod outside;
 pub mod shelf;
 pub mod sink;
 pub mod source;
 pub mod spool;
+pub mod stopping_watch;
+pub mod watch;

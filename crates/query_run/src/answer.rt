@@ -1,0 +1,50 @@
+//! Rows as an answer, where there is room for them.
+
+ghost use Rattle.std.specs.Prelude.{◌≡◌, ◌-◌, ◌^◌, min};
+ghost use Rattle.rm_base.specs.Values.{row_measure};
+ghost use Rattle.rm_rules.specs.Meaning.{answer_of, fitting};
+ghost use Rattle.query_run.specs.Running.{IsEndOf};
+
+use crate::run::RunEnd;
+use rm_base::limits::{ANSWER_MOST, ROW_MEASURE};
+use rm_base::row::Row;
+use rm_base::row_list::RowList;
+
+/// What a row measures, in bytes; it stands still at its greatest value.
+fn measure(row: &Row) -> u64
+    ensures { result ≡ min (row_measure row.now) (2 ^ 64 - 1) }
+{
+    let mut measure: u64 = ROW_MEASURE;
+    for value in row.as_slice() {
+        measure = measure.saturating_add(value.measure());
+    }
+    measure
+}
+
+/// How many first rows there is room for.
+fn fitting(mut room: u64, rows: &[Row]) -> usize
+    ensures { result ≡ fitting room rows.now }
+{
+    let mut count = 0;
+    for row in rows {
+        let measure = measure(row);
+        if measure > room {
+            return count;
+        }
+        room -= measure;
+        count += 1;
+    }
+    count
+}
+
+/// The end of a run with these rows.
+pub fn answer_of(rows: Vec<Row>) -> RunEnd
+    ensures { IsEndOf (answer_of rows.items) result }
+{
+    let count = fitting(ANSWER_MOST, &rows);
+    if count < rows.len() {
+        RunEnd::AnswerTooLarge(count as u64)
+    } else {
+        RunEnd::Answer(RowList::of(rows))
+    }
+}

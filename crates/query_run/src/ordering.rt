@@ -1,0 +1,65 @@
+//! The order of an answer.
+
+ghost use Rattle.std.specs.Prelude.{◌≡◌};
+ghost use Rattle.rm_base.specs.Values.{value_cmp};
+ghost use Rattle.rm_rules.specs.Ordering.{in_order, key_cmp, order_cmp};
+ghost use Rattle.rm_rules.specs.Sorting.{sorted};
+ghost use Rattle.query_run.specs.Known.{known};
+
+use crate::comparing::column;
+use rm_base::row::Row;
+use rm_base::select::{OrderKey, OrderSpec};
+use rm_base::value::Value;
+use std::cmp::Ordering;
+
+fn value_cmp(a: Option<&Value>, b: Option<&Value>) -> Ordering
+    ensures { result ≡ value_cmp (known a.entry) (known b.entry) }
+{
+    match (a, b) {
+        (Some(a), Some(b)) => a.cmp(b),
+        (Some(a), None) => a.cmp(&Value::Null),
+        (None, Some(b)) => Value::Null.cmp(b),
+        (None, None) => Ordering::Equal,
+    }
+}
+
+fn key_cmp(key: OrderKey, a: &Row, b: &Row) -> Ordering
+    ensures { result ≡ key_cmp key a.now b.now }
+{
+    let x = column(a, key.column);
+    let y = column(b, key.column);
+    if key.falling {
+        value_cmp(y, x)
+    } else {
+        value_cmp(x, y)
+    }
+}
+
+fn order_cmp(keys: &[OrderKey], a: &Row, b: &Row) -> Ordering
+    ensures { result ≡ order_cmp keys.now a.now b.now }
+{
+    for key in keys {
+        let order = key_cmp(*key, a, b);
+        if order != Ordering::Equal {
+            return order;
+        }
+    }
+    a.cmp(b)
+}
+
+fn sort_rows(keys: &[OrderKey], rows: &mut [Row])
+    ensures { rows.new ≡ sorted (order_cmp keys.now) rows.old }
+{
+    rows.sort_unstable_by(|a, b| order_cmp(keys, a, b));
+}
+
+/// The rows in the order of an answer, up to its limit. It takes no memory.
+pub fn ordered(order: &OrderSpec, mut rows: Vec<Row>) -> Vec<Row>
+    ensures { result.items ≡ in_order order.now rows.items }
+{
+    sort_rows(order.keys.as_slice(), &mut rows);
+    if let Some(limit) = order.limit {
+        rows.truncate(limit as usize);
+    }
+    rows
+}
