@@ -11,7 +11,7 @@ use Rattle.rm_outside.specs.declared.watch.TheConstants.{STEPS_MOST}
 use Rattle.rm_outside.specs.Faults.{counted}
 use Rattle.rm_rules.specs.Comparing.{all_true}
 use Rattle.rm_rules.specs.Meaning.{SelectOutcome, shown}
-use Rattle.rm_rules.specs.Meaning.SelectOutcome as outcome
+use Rattle.rm_rules.specs.Meaning.SelectOutcome.{Answer, AnswerTooLarge}
 use Rattle.csv_tables.specs.declared.tables.NamedTable.{NamedTable}
 use Rattle.csv_tables.specs.Named.{table_called}
 use Rattle.query_plan.specs.Scope.{table_named}
@@ -37,8 +37,8 @@ answer_rows select rows = map (shown select.items) (filter (all_true select.test
 
 -- where a run is neither stopped nor wants memory, it ends with what the SELECT means
 abbrev pub IsEndOf : SelectOutcome → RunEnd → Type 0
-IsEndOf meant (end.Answer rows) = meant ≡ outcome.Answer rows
-IsEndOf meant (end.AnswerTooLarge rows) = meant ≡ outcome.AnswerTooLarge rows
+IsEndOf meant (end.Answer rows) = meant ≡ Answer rows
+IsEndOf meant (end.AnswerTooLarge rows) = meant ≡ AnswerTooLarge rows
 IsEndOf meant (end.Stopped reply) = ⊤
 IsEndOf meant end.Memory = ⊤
 

@@ -1,9 +1,10 @@
 //! Rows as an answer, where there is room for them.
 
-ghost use Rattle.std.specs.Prelude.{◌≡◌, ◌-◌, ◌^◌, min};
+ghost use Rattle.std.specs.Prelude.{◌≡◌, ◌≤◌, ◌-◌, ◌^◌, None, min};
+ghost use Rattle.rm_base.specs.declared.limits.TheConstants.{ANSWER_MOST};
 ghost use Rattle.rm_base.specs.Values.{row_measure};
 ghost use Rattle.rm_rules.specs.Meaning.{answer_of, fitting};
-ghost use Rattle.query_run.specs.Running.{IsEndOf};
+ghost use Rattle.query_run.specs.Running.{IsEndOf, stop_of};
 
 use crate::run::RunEnd;
 use rm_base::limits::{ANSWER_MOST, ROW_MEASURE};
@@ -23,6 +24,7 @@ fn measure(row: &Row) -> u64
 
 /// How many first rows there is room for.
 fn fitting(mut room: u64, rows: &[Row]) -> usize
+    requires { room ≤ ANSWER_MOST }
     ensures { result ≡ fitting room rows.now }
 {
     let mut count = 0;
@@ -39,7 +41,8 @@ fn fitting(mut room: u64, rows: &[Row]) -> usize
 
 /// The end of a run with these rows.
 pub fn answer_of(rows: Vec<Row>) -> RunEnd
-    ensures { IsEndOf (answer_of rows.items) result }
+    ensures outcome { IsEndOf (answer_of rows.items) result }
+    ensures stop { stop_of result ≡ None }
 {
     let count = fitting(ANSWER_MOST, &rows);
     if count < rows.len() {
