@@ -7,9 +7,9 @@ loop-at-preserved g c =
     let done = c.loop-at.invariant in
     let more = c.in_ok-scan_piece.ensures in
     let end = c.loop-at.at + c.min-count.result in
-    let count = piece_length c.args.rows.now c.loop-at.at end (omega arith) (omega (arith, c.min-count.ensures, c.loop-at-test.true, done.1)) in
-    ( kept_piece c.args.select.now c.args.rows.now c.loop-at.kept.items c.scan_piece.new.kept.items _ c.loop-at.at end (omega arith) done.0 more.rows
-    , omega (arith, c.min-count.ensures, c.loop-at-test.true, done.1)
-    , more.stop
-    , omega (arith, count, more.handed, done.3)
+    let count = piece_length c.args.rows.now c.loop-at.at end (omega arith) (omega (arith, c.min-count.ensures, c.loop-at-test.true, done.1)) in (
+      kept_piece c.args.select.now c.args.rows.now c.loop-at.kept.items c.scan_piece.new.kept.items _ c.loop-at.at end (omega arith) done.0 more.rows,
+      omega (arith, c.min-count.ensures, c.loop-at-test.true, done.1),
+      more.stop,
+      omega (arith, count, more.handed, done.3),
     )
