@@ -5,7 +5,7 @@ use Rattle.std.proofs.lemmas.List.Sums.{sum_by-cons}
 use Rattle.rm_base.specs.declared.limits.TheConstants.{ANSWER_MOST}
 use Rattle.rm_base.specs.declared.value.Value.{Value}
 use Rattle.rm_base.specs.Values.{row_measure, rows_measure}
-use Rattle.rm_rules.specs.Meaning.{SelectOutcome, answer_of, fitting}
+use Rattle.rm_rules.specs.Meaning.{answer_of, fitting}
 use Rattle.rm_rules.specs.Meaning.SelectOutcome.{Answer, AnswerTooLarge}
 
 all_fit : (room : ℕ) (rows : List (List Value)) → length rows ≤ fitting room rows → rows_measure rows ≤ room

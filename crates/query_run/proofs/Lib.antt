@@ -1,3 +1,4 @@
 pub mod Plans
 pub mod Rows
 pub mod Fitting
+pub mod Least

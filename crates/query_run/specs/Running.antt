@@ -1,9 +1,10 @@
 -- What a plan is run over, and how a run ends.
-use Rattle.std.specs.Prelude.{◌≡◌, ◌≤◌, ℕ, ◌-◌, Option, Some, None, option_map, IfSome, Result, Ok, Err, List, [], ◌∷◌, map, filter, length, ⊤}
+use Rattle.std.specs.Prelude.{◌≡◌, ◌≤◌, ℕ, ◌-◌, Option, Some, None, option_map, IfSome, Result, Ok, Err, List, [], ◌∷◌, ◌++◌, map, filter, length, ⊤}
 use Rattle.std.specs.List.{filter_map}
 use Rattle.rm_base.specs.declared.catalog.CatalogTable.{CatalogTable}
 use Rattle.rm_base.specs.declared.name.Name.{Name}
 use Rattle.rm_base.specs.declared.reply.Reply.{Reply}
+use Rattle.rm_base.specs.declared.select.OrderSpec.{OrderSpec}
 use Rattle.rm_base.specs.declared.select.Select.{Select}
 use Rattle.rm_base.specs.declared.value.Value.{Value}
 use Rattle.rm_base.specs.TableSeen.{TableSeen}
@@ -12,6 +13,7 @@ use Rattle.rm_outside.specs.Faults.{counted}
 use Rattle.rm_rules.specs.Comparing.{all_true}
 use Rattle.rm_rules.specs.Meaning.{SelectOutcome, shown}
 use Rattle.rm_rules.specs.Meaning.SelectOutcome.{Answer, AnswerTooLarge}
+use Rattle.rm_rules.specs.Ordering.{in_order}
 use Rattle.csv_tables.specs.declared.tables.NamedTable.{NamedTable}
 use Rattle.csv_tables.specs.Named.{table_called}
 use Rattle.query_plan.specs.Scope.{table_named}
@@ -34,6 +36,10 @@ pub record IsRunnable (plan : Select) (tables : List NamedTable) : Type 0 where
 -- what the rows of a table show that pass every comparison
 abbrev pub answer_rows : Select → List (List Value) → List (List Value)
 answer_rows select rows = map (shown select.items) (filter (all_true select.tests) rows)
+
+-- these rows stand for those in an answer, whatever rows come behind them
+abbrev pub StandFor : OrderSpec → List (List Value) → List (List Value) → Type 0
+StandFor order these those = (more : List (List Value)) → in_order order (these ++ more) ≡ in_order order (those ++ more)
 
 -- where a run is neither stopped nor wants memory, it ends with what the SELECT means
 abbrev pub IsEndOf : SelectOutcome → RunEnd → Type 0

@@ -5,12 +5,16 @@ ghost use Rattle.rm_base.specs.Values.{value_cmp};
 ghost use Rattle.rm_rules.specs.Ordering.{in_order, key_cmp, order_cmp};
 ghost use Rattle.rm_rules.specs.Sorting.{sorted};
 ghost use Rattle.query_run.specs.Known.{known};
+ghost use Rattle.query_run.specs.Running.{StandFor};
 
 use crate::comparing::column;
 use rm_base::row::Row;
 use rm_base::select::{OrderKey, OrderSpec};
 use rm_base::value::Value;
 use std::cmp::Ordering;
+
+/// How many rows are kept at least beyond a LIMIT.
+const SPARE_ROWS: usize = 1_024;
 
 fn value_cmp(a: Option<&Value>, b: Option<&Value>) -> Ordering
     ensures { result ≡ value_cmp (known a.entry) (known b.entry) }
@@ -62,4 +66,14 @@ pub fn ordered(order: &OrderSpec, mut rows: Vec<Row>) -> Vec<Row>
         rows.truncate(limit as usize);
     }
     rows
+}
+
+/// The rows without those that come behind the first LIMIT, where there are many of them. It takes no memory.
+pub fn pruned(order: &OrderSpec, rows: Vec<Row>) -> Vec<Row>
+    ensures { StandFor order.now result.items rows.items }
+{
+    match order.limit {
+        Some(limit) if rows.len() >= 2 * (limit as usize + SPARE_ROWS) => ordered(order, rows),
+        Some(_) | None => rows,
+    }
 }

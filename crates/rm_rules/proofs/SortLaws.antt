@@ -39,7 +39,7 @@ module _ {X : Type 0} (cmp : X → X → Ordering) (total : IsTotalOrder cmp) (e
   turn_gt Greater Greater e p = cc
 
   -- x above z and y not above z: x is above y
-  across : (x y z : X) → above x z ≡ true → above y z ≡ false → above x y ≡ true
+  pub across : (x y z : X) → above x z ≡ true → above y z ≡ false → above x y ≡ true
   across x y z p q = go (cmp y z) refl q
     where
       go : (r : Ordering) → cmp y z ≡ r → is_gt r ≡ false → above x y ≡ true

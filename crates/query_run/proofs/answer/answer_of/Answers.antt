@@ -1,4 +1,4 @@
-use Rattle.std.proofs.Common.{rules, ◌≡◌, ap, sym, ◌∙◌, arith}
+use Rattle.std.proofs.Common.{◌≡◌, ap, sym, ◌∙◌, arith}
 use Rattle.rm_base.specs.declared.limits.TheConstants.{ANSWER_MOST}
 use Rattle.rm_rules.specs.Meaning.{fitting}
 use Rattle.rm_rules.specs.Meaning.SelectOutcome.{Answer, AnswerTooLarge}
