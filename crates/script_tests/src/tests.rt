@@ -14,10 +14,12 @@ use std::test::Fail;
 
 mod borrowing;
 mod faults;
+mod grantees;
 mod limits;
 mod lines;
 mod options;
 mod queue;
+mod rooms;
 mod session_calls;
 mod statements;
 mod users;

@@ -161,12 +161,7 @@ fn push_operand(alloc: Global, shown: &mut String, operand: &Operand) -> Result<
 /// The columns of the select list by their names.
 fn push_columns(alloc: Global, shown: &mut String, plan: &Plan) -> Result<(), AllocError> {
     let select = plan.select();
-    for (name, item) in select
-        .names
-        .as_slice()
-        .iter()
-        .zip(select.items.as_slice())
-    {
+    for (name, item) in select.names.as_slice().iter().zip(select.items.as_slice()) {
         let name = name.as_str();
         let text = match item {
             Item::Column(column) => format!(in alloc; " {name}={column}")?,
@@ -244,7 +239,13 @@ fn texts_are_plans_or_refused(rt: HostRuntime) -> Result<(), Fail> {
     for case in CASES.lines() {
         if !case.starts_with('#') {
             let (text, expected) = case.rsplit_once(" => ").ok_or("no =>")?;
-            check_text(&rt, alloc, &catalog, whole_text(alloc, text)?.as_str(), expected)?;
+            check_text(
+                &rt,
+                alloc,
+                &catalog,
+                whole_text(alloc, text)?.as_str(),
+                expected,
+            )?;
         }
     }
     Ok(())
@@ -264,7 +265,10 @@ fn check_list(rt: &impl Abort, alloc: Global, catalog: &Catalog, line: &str) -> 
         text.push_str(part)?;
     }
     let whole = format!(in alloc; "{text}{behind}")?;
-    assert!(rt; read_select(alloc, whole.as_str(), catalog).is_ok(), "{line}");
+    assert!(rt;
+        read_select(alloc, whole.as_str(), catalog).is_ok(),
+        "{line}"
+    );
     text.push_str(separator)?;
     let place = text.len();
     let expected = format!(in alloc; "refused 1 {place}")?;

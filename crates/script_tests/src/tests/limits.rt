@@ -57,7 +57,7 @@ fn a_line_has_so_many_bytes(rt: HostRuntime) -> Result<(), Fail> {
 }
 
 /// Lines of these texts, each with the numbers from 1 on between them.
-fn numbered(alloc: Global, before: &str, after: &str, most: u32) -> Result<String, Fail> {
+pub fn numbered(alloc: Global, before: &str, after: &str, most: u32) -> Result<String, Fail> {
     let mut script = String::new(alloc);
     for n in 1..=most {
         script.push_str(format!(in alloc; "{before}{n}{after}\n")?.as_str())?;
@@ -71,9 +71,11 @@ fn so_many_sessions_are_open(rt: HostRuntime) -> Result<(), Fail> {
     script.push_str("close s1\nopen s129 dbadmin\nopen s1 dbadmin\nclose s128\nopen s1 dbadmin\n")?;
     let (status, out) = run(rt.alloc(), USUAL, script.as_bytes())?;
     assert_eq!(rt; status, 0);
-    assert!(rt; out.contents().ends_with(
-        b"s128 opened 128\ns129 refused 24 128\ns1 closed\ns129 opened 129\ns1 refused 24 128\ns128 closed\ns1 opened 130\n"
-    ));
+    assert!(rt;
+        out.contents().ends_with(
+            b"s128 opened 128\ns129 refused 24 128\ns1 closed\ns129 opened 129\ns1 refused 24 128\ns128 closed\ns1 opened 130\n"
+        )
+    );
     Ok(())
 }
 
