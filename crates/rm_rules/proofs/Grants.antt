@@ -165,6 +165,10 @@ turned-submitted s c event y running waiting next =
       turn w (inl before) = inl before
       turn w (inr new) = inr (subst (WasSubmitted s event) (sym new) next)
 
+-- what a session's running query holds
+pub grant_of-found : (running : List Runner) (n : ℕ) (r : Runner) → runner_of running n ≡ Some r → grant_of running n ≡ r.grant
+grant_of-found running n r found = ap (λ (o : Option Runner). elim o [ Some y ↦ y.grant | None ↦ 0 ]) found
+
 -- a running query is what its number finds
 pub runner-number : (s : State) (n : ℕ) (r : Runner) → runner_of s.running n ≡ Some r → AreNumbered s.last_query s.waiting s.running → runner_called s.running r.query ≡ Some r
 runner-number s n r found numbered =
@@ -274,7 +278,7 @@ frees-change s u seat _ _ (finishes session x found runs) h =
     let few : count_by (λ (y : Runner). eqb y.session n) s.running ≤ 1 = omega (arith, h.in_phase.runs n, one_if-most (is_running (phase_of s.sessions n))) in
     let number : n ≡ session = (session_of-is s seat session x found).number in
     let freed : query_of s session ≡ Some r.0.query = ap (λ k. query_of s k) (sym number) ∙ ap (option_map (λ (y : Runner). y.query)) r.1 in
-    let grant : grant_of s.running n ≡ r.0.grant = ap (λ (o : Option Runner). elim o [ Some y ↦ y.grant | None ↦ 0 ]) r.1 in
+    let grant : grant_of s.running n ≡ r.0.grant = grant_of-found s.running n r.0 r.1 in
     let turned = turned-finished s (finished s x).state (Finish session) n r.0 refl refl r.1 few h.numbered in
     record {
       turned = subst (Turned s (finished s x).state (Finish session)) (sym freed) turned;

@@ -1,5 +1,5 @@
 -- The laws of the machine: every state is healthy, and histories are legal and replay to their state.
-use Rattle.std.proofs.Common.{◌≡◌, ℕ, ◌≤◌, Bool, true, false, ◌||◌, cond, eqb, List, [], ◌∷◌, ◌++◌, length, refl, sym, ap, ◌∙◌, subst, arith, max, append_assoc, append-nil}
+use Rattle.std.proofs.Common.{◌≡◌, ◌≢◌, ℕ, ◌≤◌, Bool, true, false, ◌||◌, cond, eqb, List, [], ◌∷◌, ◌++◌, length, refl, sym, ap, ◌∙◌, subst, arith, max, append_assoc, append-nil}
 use Rattle.std.specs.Option.{is_some}
 use Rattle.std.proofs.lemmas.Bool.{false≢true, eq-eqb}
 use Rattle.std.proofs.lemmas.Bool.Decides.{nat_tests}
@@ -50,6 +50,22 @@ healthy-start d room sound = record {
 pub healthy-replay : (s : State) (entries : List Entry) → IsLegal s entries → IsHealthy s → IsHealthy (replay s entries)
 healthy-replay s [] legal h = h
 healthy-replay s (e ∷ es) legal h = healthy-replay (step s e.seat e.at e.event).state es legal.2 (healthy-step s e.seat e.at e.event legal.0 h)
+
+-- a fact that the events of other seats keep
+abbrev pub IsKeptByOthers : ℕ → (State → Type 0) → Type 0
+IsKeptByOthers seat P = (s : State) (other at : ℕ) (event : Event) → other ≢ seat → IsHealthy s → IsFormed event → P s → P (step s other at event).state
+
+others-turn : (e : Entry) (rest : List Entry) (b : Bool) → cond b (e ∷ rest) rest ≡ [] → (b ≡ false) × (rest ≡ [])
+others-turn e rest true none = absurd (cc)
+others-turn e rest false none = (refl, none)
+
+pub others-keep : (P : State → Type 0) (seat : ℕ) → IsKeptByOthers seat P → (s : State) (others : List Entry) → IsHealthy s → IsLegal s others → own_entries seat others ≡ []
+    → P s → P (replay s others)
+others-keep P seat each s [] healthy legal none h = h
+others-keep P seat each s (e ∷ es) healthy legal none h =
+    let first = others-turn e (own_entries seat es) (eqb e.seat seat) none in
+    others-keep P seat each (step s e.seat e.at e.event).state es (healthy-step s e.seat e.at e.event legal.0 healthy) legal.2 first.1
+    (each s e.seat e.at e.event (λ same. false≢true (sym first.0 ∙ eq-eqb e.seat seat same)) healthy legal.0 h)
 
 -- the journal after an event is the journal before it and what the event made
 rest-entered : (s : State) (seat at : ℕ) (event : Event) (c : Change) → IsTried (found_at s at) seat event c

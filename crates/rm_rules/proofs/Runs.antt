@@ -1,8 +1,9 @@
 -- A session that runs: who opened it, how it goes on, and what it is told.
-use Rattle.std.proofs.Common.{◌≡◌, ℕ, ◌≤◌, Bool, true, false, ◌||◌, cond, not, eqb, leb, List, [], ◌∷◌, ◌++◌, Some, None, Option, Ok, Err, Result, inl, inr, ◌⊎◌, refl, sym, ap, ◌∙◌, subst, arith, count_by}
+use Rattle.std.proofs.Common.{◌≡◌, ℕ, ◌≤◌, Bool, true, false, ◌||◌, cond, not, eqb, leb, List, [], ◌∷◌, ◌++◌, Some, None, Option, Err, Result, inl, inr, ◌⊎◌, refl, sym, ap, ◌∙◌, subst, arith, count_by}
 use Rattle.std.specs.Prelude.{◌≢◌, option_map, option_and_then}
 use Rattle.std.proofs.lemmas.Bool.{eqb-true, eq-eqb, false≢true}
 use Rattle.std.proofs.lemmas.Bool.Decides.{nat_tests}
+use Rattle.rm_base.specs.declared.entry.Entry.{Entry}
 use Rattle.rm_base.specs.declared.event.Event.{Event}
 use Rattle.rm_base.specs.declared.event.Event.TheVariants.{Define, Open, SetPool, Submit, Poll, Finish, Close}
 use Rattle.rm_base.specs.declared.name.Name.{Name}
@@ -20,10 +21,10 @@ use Rattle.rm_rules.specs.declared.state.Runner.{Runner}
 use Rattle.rm_rules.specs.State.{State, session_called, session_of, if_opened_by, session_pool, phase_of, with_phase, with_choice, without_session, is_running, is_ended}
 use Rattle.rm_rules.specs.Refusals.{refused_if, unless_refused}
 use Rattle.rm_rules.specs.Settle.{settled}
-use Rattle.rm_rules.specs.Change.{Change, change, tried, new_session, submitted, finished, finishing, runner_of, grant_of}
+use Rattle.rm_rules.specs.Change.{Change, tried, new_session, submitted, finished, finishing, runner_of, grant_of}
 use Rattle.rm_rules.specs.Answers.{told, told_in_phase, told_running, told_waiting, waiter_of, reply_of, answered}
 use Rattle.rm_rules.specs.Step.{moved_to, has_due, found_at, attempted, step}
-use Rattle.rm_rules.specs.Replay.{IsFormed}
+use Rattle.rm_rules.specs.Replay.{IsFormed, replay, IsLegal, own_entries}
 use Rattle.rm_rules.specs.Sessions.{session_in}
 use Rattle.rm_rules.specs.Healthy.{AreInPhase, AreOpened, AreNumbered, IsHealthy}
 use Rattle.rm_rules.specs.Grants.{Run, run_by, run_of, runner_called, query_of, released, freed_by}
@@ -36,9 +37,9 @@ use Rattle.rm_rules.proofs.Admitting.{one_or_none}
 use Rattle.rm_rules.proofs.Settling.{due-keeps, settled-keeps, rest-due}
 use Rattle.rm_rules.proofs.Changing.{IsTried, stays, changes, refuses, repeats, tells, IsChange, defines, opens, chooses, submits, collects, finishes, closes, session_of-is, session_of-found, tried-is}
 use Rattle.rm_rules.proofs.Stepping.{found-facts, none-found, outcome-turn}
-use Rattle.rm_rules.proofs.Laws.{healthy-step}
+use Rattle.rm_rules.proofs.Laws.{healthy-step, others-keep}
 use Rattle.rm_rules.proofs.Loud.{next-differs}
-use Rattle.rm_rules.proofs.Grants.{runner-number, less-found, grants-step}
+use Rattle.rm_rules.proofs.Grants.{grant_of-found, runner-number, less-found, grants-step}
 
 -- the session of this number, if it is open, was opened by this seat
 pub record IsOwned (n seat : ℕ) (xs : List Session) : Type 0 where
@@ -89,7 +90,7 @@ without-turn n m seat xs false e once h = record {
 }
 
 -- so no part of an event gives a session to another seat
-owned-found_at : (s : State) (at n seat : ℕ) → IsOwned n seat s.sessions → IsOwned n seat (found_at s at).sessions
+pub owned-found_at : (s : State) (at n seat : ℕ) → IsOwned n seat s.sessions → IsOwned n seat (found_at s at).sessions
 owned-found_at s at n seat h =
     due-keeps (λ t. IsOwned n seat t.sessions) (λ t w end among k. owned-with n w.session seat (phase.Ended end) t.sessions k) (moved_to s at) h
 
@@ -148,7 +149,7 @@ session_of-owned : (s : State) (seat n : ℕ) (x : Session) → IsOwned n seat s
 session_of-owned s seat n x owned called =
     ap (option_and_then (if_opened_by seat)) called ∙ ap (λ b. cond b (Some x) None) (eq-eqb x.seat seat (owned.owner x called))
 
-runs-open : (t : State) (n seat : ℕ) (r : Runner) → AreInPhase t.sessions t.waiting t.running → IsOwned n seat t.sessions → runner_of t.running n ≡ Some r
+pub runs-open : (t : State) (n seat : ℕ) (r : Runner) → AreInPhase t.sessions t.waiting t.running → IsOwned n seat t.sessions → runner_of t.running n ≡ Some r
     → (x : Session) × (session_of t seat n ≡ Some x) × (is_running x.phase ≡ true)
 runs-open t n seat r h owned found = turn (session_called t.sessions n) refl where
   turn : (o : Option Session) → session_called t.sessions n ≡ o → (x : Session) × (session_of t seat n ≡ Some x) × (is_running x.phase ≡ true)
@@ -156,7 +157,7 @@ runs-open t n seat r h owned found = turn (session_called t.sessions n) refl whe
   turn (Some x) called = (x, session_of-owned t seat n x owned called, ap is_running (sym (phase_of-found n t.sessions x called)) ∙ session-runs t n r h found)
 
 -- what a seat knows of the run of its session
-record IsRun (s : State) (seat session : ℕ) (run : Run) : Type 0 where
+pub record IsRun (s : State) (seat session : ℕ) (run : Run) : Type 0 where
   pub opener : Session
   pub open_session : session_of s seat session ≡ Some opener
   pub runner : Runner
@@ -169,15 +170,15 @@ run-turn s seat session run None q e f is = absurd (cc)
 run-turn s seat session run (Some x) None e f is = absurd (cc)
 run-turn s seat session run (Some x) (Some r) e f is = record { opener = x; open_session = e; runner = r; runs = f; is = let same : run_by r ≡ run = cc in same }
 
-run-is : (s : State) (seat session : ℕ) (run : Run) → run_of s seat session ≡ Some run → IsRun s seat session run
+pub run-is : (s : State) (seat session : ℕ) (run : Run) → run_of s seat session ≡ Some run → IsRun s seat session run
 run-is s seat session run is = run-turn s seat session run (session_of s seat session) (runner_of s.running session) refl refl is
 
-run-found : (s : State) (seat session : ℕ) (x : Session) (r : Runner) → session_of s seat session ≡ Some x → runner_of s.running session ≡ Some r → run_of s seat session ≡ Some (run_by r)
+pub run-found : (s : State) (seat session : ℕ) (x : Session) (r : Runner) → session_of s seat session ≡ Some x → runner_of s.running session ≡ Some r → run_of s seat session ≡ Some (run_by r)
 run-found s seat session x r found runs =
     ap (option_and_then (λ (_ : Session). option_map run_by (runner_of s.running session))) found ∙ ap (option_map run_by) runs
 
 -- its session is this seat's, with a number that was given
-owned-opened : (s : State) (seat n : ℕ) (x : Session) → session_of s seat n ≡ Some x → IsOwned n seat s.sessions
+pub owned-opened : (s : State) (seat n : ℕ) (x : Session) → session_of s seat n ≡ Some x → IsOwned n seat s.sessions
 owned-opened s seat n x found =
     let is = session_of-is s seat n x found in
     subst (λ k. IsOwned n k s.sessions) is.of_seat (owned-found n x s.sessions is.called)
@@ -268,28 +269,38 @@ runs-on s seat at owner session event run h formed is unless =
     let owned = owned-opened s owner session was.opener was.open_session in
     let kept = (grants-step s seat at event h).kept r.query r (runner-number s session r was.runs h.numbered) (not-freed s seat at owner session event r h owned was.runs unless) in
     let runs = runner-session t session r.query r there.in_phase kept (found_passes (λ (z : Runner). eqb z.session session) r s.running was.runs) in
-    let there_open = runs-open t session owner r there.in_phase
+    let opener = runs-open t session owner r there.in_phase
     (owned-step s seat at event session owner h (given-opened s owner session was.opener was.open_session h.opened) owned) runs in
-    run-found t owner session there_open.0 r there_open.1 runs ∙ ap (λ x. Some x) was.is
+    run-found t owner session opener.0 r opener.1 runs ∙ ap (λ x. Some x) was.is
 
--- and what it finishes gives its grant back
+-- also along a history of other seats
+pub runs-among : (s : State) (entries : List Entry) (owner session : ℕ) (run : Run) → IsHealthy s → IsLegal s entries → own_entries owner entries ≡ []
+    → run_of s owner session ≡ Some run → run_of (replay s entries) owner session ≡ Some run
+runs-among s entries owner session run h legal none is =
+    others-keep (λ t. run_of t owner session ≡ Some run) owner
+    (λ t seat at event apart healthy formed runs. runs-on t seat at owner session event run healthy formed runs (λ _. apart)) s entries h legal none is
+
+-- a Finish of a running session is not refused
+finish-found : (t : State) (seat session : ℕ) (x : Session) → session_of t seat session ≡ Some x → is_running x.phase ≡ true → attempted t seat (Finish session) ≡ finished t x
+finish-found t seat session x found runs =
+    ap (λ (o : Option Session). let r : Result Change Refusal = elim o [ Some y ↦ finishing t y | None ↦ Err refusal.NoSuchSession ] in tried t r) found
+    ∙ ap (λ b. tried t (unless_refused (refused_if (not b) refusal.NotLive) (finished t x))) runs
+
+-- and gives its grant back
 pub finish-step : (s : State) (seat at session : ℕ) (run : Run) → IsHealthy s → run_of s seat session ≡ Some run → (step s seat at (Finish session)).reply ≡ reply.Released run.grant
 finish-step s seat at session run h is =
     let was = run-is s seat session run is in
     let t = found_at s at in
-    let runs : runner_of t.running session ≡ Some was.runner = ap (λ l. runner_of l session) (less-found s at).running ∙ was.runs in
-    let there_open = runs-open t session seat was.runner (found-facts s at h).in_phase (owned-found_at s at session seat (owned-opened s seat session was.opener was.open_session)) runs in
-    let x = there_open.0 in
-    let accepts : change t seat (Finish session) ≡ Ok (finished t x) =
-    ap (λ (o : Option Session). let r : Result Change Refusal = elim o [ Some y ↦ finishing t y | None ↦ Err refusal.NoSuchSession ] in r) there_open.1
-    ∙ ap (λ b. unless_refused (refused_if (not b) refusal.NotLive) (finished t x)) there_open.2 in
-    let tries : attempted t seat (Finish session) ≡ finished t x = ap (tried t) accepts in
-    let grant : grant_of t.running x.number ≡ run.grant =
-    ap (grant_of t.running) (session_of-is t seat session x there_open.1).number ∙ ap (λ (o : Option Runner). elim o [ Some y ↦ y.grant | None ↦ 0 ]) runs ∙ ap (λ (z : Run). z.grant) was.is in
     let c = attempted t seat (Finish session) in
+    let runs : runner_of t.running session ≡ Some was.runner = ap (λ l. runner_of l session) (less-found s at).running ∙ was.runs in
+    let opener = runs-open t session seat was.runner (found-facts s at h).in_phase (owned-found_at s at session seat (owned-opened s seat session was.opener was.open_session)) runs in
+    let tries = finish-found t seat session opener.0 opener.1 opener.2 in
+    let grant : grant_of t.running opener.0.number ≡ run.grant =
+    ap (grant_of t.running) (session_of-is t seat session opener.0 opener.1).number ∙ grant_of-found t.running session was.runner runs ∙ ap (λ (z : Run). z.grant) was.is in
+    let says : reply.Released (grant_of t.running opener.0.number) ≡ reply.Released run.grant = ap (λ g. let a : Reply = reply.Released g in a) grant in
     outcome-turn (λ o. o.reply ≡ reply.Released run.grant) s seat (Finish session) c (has_due s at || c.changed)
-    (λ settles. ap (λ (d : Change). reply_of (settled d.state) d.answer) tries ∙ ap (λ g. let a : Reply = reply.Released g in a) grant)
-    (λ still. ap (λ (d : Change). reply_of d.state d.answer) tries ∙ ap (λ g. let a : Reply = reply.Released g in a) grant)
+    (λ settles. ap (λ (d : Change). reply_of (settled d.state) d.answer) tries ∙ says)
+    (λ still. ap (λ (d : Change). reply_of d.state d.answer) tries ∙ says)
 
 -- a session that is told of a grant runs with it
 record IsToldRun (t : State) (n query grant : ℕ) : Type 0 where

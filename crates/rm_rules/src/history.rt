@@ -20,7 +20,7 @@ ghost use Rattle.rm_rules.specs.Settle.{settled};
 ghost use Rattle.rm_rules.specs.Settled.{IsSettled};
 ghost use Rattle.rm_rules.specs.Change.{change};
 ghost use Rattle.rm_rules.specs.Step.{found_at, step, made, left_refused, IsSameButClock};
-ghost use Rattle.rm_rules.specs.Replay.{replay, IsFormed, IsLegal};
+ghost use Rattle.rm_rules.specs.Replay.{replay, IsFormed, IsLegal, own_entries};
 ghost use Rattle.rm_rules.specs.Sound.{IsSound};
 ghost use Rattle.rm_rules.specs.Healthy.{AreSized, AreThere, AreHeld, IsHealthy};
 ghost use Rattle.rm_rules.specs.Conserved.{ConservedAfterEach};
@@ -55,14 +55,20 @@ pub fn grants_are_kept()
         → BytesAreKept (start d room) entries }
 {}
 
-/// A session that runs goes on with its query and its grant until its own seat finishes it.
+/// A session that runs goes on with its query and its grant until its own seat finishes it, whatever others do.
 pub fn running_sessions_go_on()
-    ensures { (s : State) (seat at owner session : ℕ) (event : Event) (run : Run)
+    ensures step { (s : State) (seat at owner session : ℕ) (event : Event) (run : Run)
         → IsHealthy s
         → IsFormed event
         → run_of s owner session ≡ Some run
         → (event ≡ Finish session → seat ≢ owner)
         → run_of (step s seat at event).state owner session ≡ Some run }
+    ensures others { (s : State) (entries : List Entry) (owner session : ℕ) (run : Run)
+        → IsHealthy s
+        → IsLegal s entries
+        → own_entries owner entries ≡ []
+        → run_of s owner session ≡ Some run
+        → run_of (replay s entries) owner session ≡ Some run }
 {}
 
 /// A session that runs is finished by its own seat whenever that asks for it, and gives back the grant with which it ran.

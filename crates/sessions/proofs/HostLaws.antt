@@ -1,5 +1,5 @@
 -- What the calls of a host leave of the state that it has seen.
-use Rattle.std.proofs.Common.{◌≡◌, ℕ, Bool, true, false, cond, eqb, List, [], ◌∷◌, ◌++◌, length, append-nil, refl, sym, ap, ◌∙◌, subst}
+use Rattle.std.proofs.Common.{◌≡◌, ◌≢◌, ℕ, Bool, true, false, cond, eqb, List, [], ◌∷◌, ◌++◌, length, append-nil, refl, sym, ap, ◌∙◌, subst}
 use Rattle.rm_base.specs.declared.entry.Answered.{Answered}
 use Rattle.rm_base.specs.declared.entry.Entry.{Entry}
 use Rattle.rm_base.specs.declared.event.Event.{Event}
@@ -8,27 +8,11 @@ use Rattle.rm_rules.specs.Step.{step, made}
 use Rattle.rm_rules.specs.Replay.{replay, IsFormed, IsLegal, own_entries}
 use Rattle.rm_rules.specs.Sound.{IsSound}
 use Rattle.rm_rules.specs.Healthy.{IsHealthy}
-use Rattle.rm_rules.proofs.Laws.{healthy-step, healthy-start, healthy-replay, journal-step, replay-append, legal-parts, legal-more, replay-more}
+use Rattle.rm_rules.proofs.Laws.{IsKeptByOthers, others-keep, healthy-start, healthy-replay, journal-step, replay-append, legal-parts, legal-more, replay-more}
 use Rattle.rm_rules.proofs.Histories.{room-step}
 use Rattle.machine.specs.Desk.{DeskState}
 use Rattle.sessions.specs.declared.host.TheConstants.{FIRST_SEAT}
 use Rattle.sessions.specs.Host.{Known, beginning, state_of, outcome_at, with_seen, SeesMore, Called, IsStep, desk_known}
-
--- a fact that the events of other seats keep
-abbrev pub IsKeptByOthers : ℕ → (State → Type 0) → Type 0
-IsKeptByOthers seat P = (s : State) (other at : ℕ) (event : Event) → eqb other seat ≡ false → IsHealthy s → IsFormed event → P s → P (step s other at event).state
-
-others-turn : (e : Entry) (rest : List Entry) (b : Bool) → cond b (e ∷ rest) rest ≡ [] → (b ≡ false) × (rest ≡ [])
-others-turn e rest true none = absurd (cc)
-others-turn e rest false none = (refl, none)
-
-others-keep : (P : State → Type 0) (seat : ℕ) → IsKeptByOthers seat P → (s : State) (others : List Entry) → IsHealthy s → IsLegal s others → own_entries seat others ≡ []
-    → P s → P (replay s others)
-others-keep P seat each s [] healthy legal none h = h
-others-keep P seat each s (e ∷ es) healthy legal none h =
-    let first = others-turn e (own_entries seat es) (eqb e.seat seat) none in
-    others-keep P seat each (step s e.seat e.at e.event).state es (healthy-step s e.seat e.at e.event legal.0 healthy) legal.2 first.1
-    (each s e.seat e.at e.event first.0 healthy legal.0 h)
 
 -- what a host has seen leaves a healthy state
 pub sees-healthy : (old new : Known) → SeesMore old new → IsHealthy (state_of new)

@@ -10,3 +10,7 @@ pub mod EndedLemmas
 mod NamesLemmas
 pub mod RunLemmas
 pub mod HostLaws
+pub mod OpenLaws
+pub mod ToldLaws
+pub mod EndingLaws
+pub mod SessionLaws

@@ -1,6 +1,7 @@
 pub mod Commands
 pub mod Ended
 pub mod Failures
+pub mod Granted
 pub mod Host
 pub mod Lines
 pub mod Numbers
@@ -8,6 +9,7 @@ pub mod Options
 pub mod OptionsFacts
 pub mod Running
 pub mod Script
+pub mod Session
 pub mod SessionNames
 pub mod Texts
 pub mod Transfers

@@ -1,9 +1,11 @@
 //! What sessions call: a machine as one seat reaches it.
 
-ghost use Rattle.std.specs.Prelude.{◌≡◌, true, IfOk};
+ghost use Rattle.std.specs.Prelude.{◌≡◌, ℕ, true, IfOk};
+ghost use Rattle.rm_base.specs.declared.entry.Answered.{Answered};
+ghost use Rattle.rm_base.specs.declared.event.Event.{Event};
 ghost use Rattle.rm_rules.specs.Replay.{IsFormed, is_define};
 ghost use Rattle.machine.specs.Looked.{looked_of};
-ghost use Rattle.sessions.specs.Host.{Known, state_of, SeesMore, Called, desk_known};
+ghost use Rattle.sessions.specs.Host.{Known, state_of, SeesMore, Called, IsStep, desk_known};
 
 use machine::desk::Desk;
 use rm_base::entry::Answered;
@@ -45,3 +47,11 @@ impl Host for Desk {
         Desk::look(self, alloc)
     }
 }
+
+/// Where no other seat acts on the machine, a call is the event's step at what the host has seen.
+pub fn lone_calls_are_steps()
+    ensures { (old new : Known) (at : ℕ) (event : Event) (answered : Answered)
+        → Called old new at event answered
+        → old.alone ≡ true
+        → IsStep old new at event answered }
+{}

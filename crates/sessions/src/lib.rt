@@ -5,6 +5,7 @@
 mod command;
 mod comments;
 mod failure;
+pub mod grant;
 pub mod host;
 mod input;
 mod lines;
@@ -15,6 +16,8 @@ mod output;
 mod run;
 mod script;
 pub mod script_main;
+pub mod session;
 pub mod status;
+pub mod submitted;
 mod texts;
 mod words;

@@ -1,0 +1,107 @@
+-- What a call of a session is answered, and what it leaves of the sessions of its host.
+use Rattle.std.proofs.Common.{◌≡◌, ◌≢◌, ℕ, Bool, true, false, Some, None, refl, sym, ap, ◌∙◌, subst}
+use Rattle.rm_base.specs.declared.entry.Answered.{Answered}
+use Rattle.rm_base.specs.declared.event.Event.{Event}
+use Rattle.rm_base.specs.declared.event.Event.TheVariants.{Open, Poll, Finish, Close}
+use Rattle.rm_base.specs.declared.name.Name.{Name}
+use Rattle.rm_base.specs.declared.reply.Reply.{Reply}
+use Rattle.rm_base.specs.declared.reply.Reply.TheVariants as reply
+use Rattle.rm_rules.specs.State.{State}
+use Rattle.rm_rules.specs.Replay.{IsFormed}
+use Rattle.rm_rules.specs.Sessions.{session_in}
+use Rattle.rm_rules.specs.Grants.{Run, run_of}
+use Rattle.rm_rules.proofs.Laws.{IsKeptByOthers}
+use Rattle.rm_rules.proofs.Runs.{run-is, runs-on, finish-step, told-step}
+use Rattle.sessions.specs.declared.submitted.Submitted.{Submitted}
+use Rattle.sessions.specs.declared.submitted.Submitted.TheVariants.{Admitted, Waiting, Ended, Refused}
+use Rattle.sessions.specs.Granted.{Granted}
+use Rattle.sessions.specs.Host.{Known, state_of, outcome_at, SeesMore, Called}
+use Rattle.sessions.specs.Session.{IsOpen, IsRunning, HasQuery, SeesOpen, SeesRunning, HoldsGrant, IsTold, IfAdmitted, TellsQuery}
+use Rattle.sessions.proofs.HostLaws.{sees-healthy, sees-keeps, sees-seat, called-state, called-seat, called-keeps}
+use Rattle.sessions.proofs.OpenLaws.{open-others, open-step}
+use Rattle.sessions.proofs.ToldLaws.{asks, asking-tells, IsGiven, poll-given}
+use Rattle.sessions.proofs.EndingLaws.{AnswersOpen, open-answers, AnswersClose, close-answers}
+
+-- what the event leaves and replies at what the host found, the call does
+called-turn : (P : ℕ → State → Reply → Type 0) (old new : Known) (at : ℕ) (event : Event) (answered : Answered) (h : Called old new at event answered)
+    → P h.found.seat (outcome_at h.found at event).state (outcome_at h.found at event).reply → P new.seat (state_of new) answered.reply
+called-turn P old new at event answered h is =
+    let o = outcome_at h.found at event in
+    let seat : new.seat ≡ h.found.seat = ap (λ (k : Known). k.seat) h.seen in
+    subst (λ r. P new.seat (state_of new) r) (sym h.reply)
+    (subst (λ s. P new.seat s o.reply) (sym (called-state old new at event answered h)) (subst (λ n. P n o.state o.reply) (sym seat) is))
+
+abbrev pub run_with : Granted → Run
+run_with g = record { query = g.query; grant = g.bytes }
+
+-- a session stays open until its own call closes it
+pub open-sees : (old new : Known) (n : ℕ) → SeesMore old new → SeesOpen old n → SeesOpen new n
+open-sees old new n h is = subst (λ k. IsOpen (state_of new) k n) (sym (sees-seat old new h)) (sees-keeps (λ s. IsOpen s old.seat n) old new h (open-others old.seat n) is)
+
+pub open-called : (old new : Known) (at n : ℕ) (event : Event) (answered : Answered) → Called old new at event answered → IsFormed event → event ≢ Close n → SeesOpen old n → SeesOpen new n
+open-called old new at n event answered h formed other was =
+    called-keeps (λ seat s. IsOpen s seat n) old new at event answered h (open-others old.seat n) (λ s healthy is. open-step s old.seat at event n healthy formed other is) was
+
+-- and its query runs on until its own call finishes it
+running-others : (seat : ℕ) (g : Granted) → IsKeptByOthers seat (λ s. IsRunning s seat g)
+running-others seat g s other at event apart healthy formed is = runs-on s other at seat g.session event (run_with g) healthy formed is (λ e. apart)
+
+pub running-sees : (old new : Known) (g : Granted) → SeesMore old new → SeesRunning old g → SeesRunning new g
+running-sees old new g h is = subst (λ k. IsRunning (state_of new) k g) (sym (sees-seat old new h)) (sees-keeps (λ s. IsRunning s old.seat g) old new h (running-others old.seat g) is)
+
+pub running-called : (old new : Known) (at : ℕ) (g : Granted) (event : Event) (answered : Answered) → Called old new at event answered → IsFormed event → event ≢ Finish g.session
+    → SeesRunning old g → SeesRunning new g
+running-called old new at g event answered h formed other is =
+    called-keeps (λ seat s. IsRunning s seat g) old new at event answered h (running-others old.seat g)
+    (λ s healthy runs. runs-on s old.seat at old.seat g.session event (run_with g) healthy formed runs (λ e. absurd (other e))) is
+
+pub query-open : (s : State) (seat n : ℕ) → HasQuery s seat n → IsOpen s seat n
+query-open s seat n (run, is) = let was = run-is s seat n run is in (was.opener, was.open_session)
+
+pub running-open : (k : Known) (g : Granted) → SeesRunning k g → SeesOpen k g.session
+running-open k g is = query-open (state_of k) k.seat g.session (run_with g, is)
+
+-- what each call is answered
+pub open-reply : (old new : Known) (at : ℕ) (user : Name) (answered : Answered) → Called old new at (Open user) answered → AnswersOpen new.seat (state_of new).sessions answered.reply
+open-reply old new at user answered h =
+    called-turn (λ seat s r. AnswersOpen seat s.sessions r) old new at (Open user) answered h
+    (open-answers (state_of h.found) h.found.seat at user (sees-healthy old h.found h.sees))
+
+pub asking-reply : (old new : Known) (at : ℕ) (event : Event) (answered : Answered) → Called old new at event answered → asks event ≡ true → TellsQuery answered.reply
+asking-reply old new at event answered h for =
+    called-turn (λ seat s r. TellsQuery r) old new at event answered h (asking-tells (state_of h.found) h.found.seat at event for)
+
+-- where it tells of a grant, that is the session's, and its query runs
+admitted-runs : (old new : Known) (at n query grant own borrowed : ℕ) (pool : Name) (event : Event) (answered : Answered) → Called old new at event answered → session_in event ≡ Some n
+    → answered.reply ≡ reply.Admitted query pool grant own borrowed → SeesRunning new (record { session = n; query = query; bytes = grant })
+admitted-runs old new at n query grant own borrowed pool event answered h of =
+    called-turn (λ seat s r. r ≡ reply.Admitted query pool grant own borrowed → run_of s seat n ≡ Some (record { query = query; grant = grant })) old new at event answered h
+    (told-step (state_of h.found) h.found.seat at n query event pool grant own borrowed of)
+
+pub told-grant : (old new : Known) (at n : ℕ) (event : Event) (answered : Answered) (submitted : Submitted) → Called old new at event answered → session_in event ≡ Some n
+    → IsTold n submitted answered.reply → IfAdmitted submitted (HoldsGrant new n)
+told-grant old new at n event answered (Admitted grant account) h of (own, is) =
+    let runs = admitted-runs old new at n grant.query grant.bytes account.own account.borrowed account.pool event answered h of is in
+    (own, subst (λ k. run_of (state_of new) new.seat k ≡ Some (record { query = grant.query; grant = grant.bytes })) (sym own) runs)
+told-grant old new at n event answered (Waiting place) h of is = tt
+told-grant old new at n event answered (Ended end) h of is = tt
+told-grant old new at n event answered (Refused refusal) h of is = tt
+
+-- a session that holds its grant is told of just that one, and gives it back
+pub poll-reply : (old new : Known) (at n : ℕ) (g : Granted) (answered : Answered) → Called old new at (Poll n) answered → HoldsGrant old n g → IsGiven (run_with g) answered.reply
+poll-reply old new at n g answered h (own, is) =
+    called-turn (λ seat s r. IsGiven (run_with g) r) old new at (Poll n) answered h
+    (poll-given (state_of h.found) h.found.seat at n (run_with g) (sees-healthy old h.found h.sees)
+    (subst (λ k. run_of (state_of h.found) h.found.seat k ≡ Some (run_with g)) own (running-sees old h.found g h.sees is)))
+
+pub finish-reply : (old new : Known) (at n : ℕ) (g : Granted) (answered : Answered) → Called old new at (Finish n) answered → HoldsGrant old n g → answered.reply ≡ reply.Released g.bytes
+finish-reply old new at n g answered h (own, is) =
+    called-turn (λ seat s r. r ≡ reply.Released g.bytes) old new at (Finish n) answered h
+    (finish-step (state_of h.found) h.found.seat at n (run_with g) (sees-healthy old h.found h.sees)
+    (subst (λ k. run_of (state_of h.found) h.found.seat k ≡ Some (run_with g)) own (running-sees old h.found g h.sees is)))
+
+pub close-reply : (old new : Known) (at m n : ℕ) (answered : Answered) → m ≡ n → Called old new at (Close m) answered → SeesOpen old n → AnswersClose new.seat n (state_of new) answered.reply
+close-reply old new at m n answered same called was =
+    let h : Called old new at (Close n) answered = subst (λ k. Called old new at (Close k) answered) same called in
+    called-turn (λ seat s r. AnswersClose seat n s r) old new at (Close n) answered h
+    (close-answers (state_of h.found) h.found.seat at n (sees-healthy old h.found h.sees) (open-sees old h.found n h.sees was))

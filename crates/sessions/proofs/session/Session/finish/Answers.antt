@@ -1,0 +1,17 @@
+use Rattle.std.proofs.Common.{sym, ap, ◌∙◌, subst}
+use Rattle.rm_base.specs.declared.event.Event.TheVariants.{Finish}
+use Rattle.rm_base.specs.declared.reply.Reply.TheVariants.{Released}
+use Rattle.sessions.specs.Granted.{SessionState}
+use Rattle.sessions.specs.Host.{Called}
+use Rattle.sessions.proofs.SessionLaws.{finish-reply}
+use Rattle.sessions.proofs.session.Session.finish.Goals as goal
+
+pub returns-clause-call : goal.returns-clause-call
+returns-clause-call g c =
+    let called = subst
+    (λ (s : SessionState). Called (g.H.Host.known c.args.host.now) (g.H.Host.known c.call-answered.new.self) c.args.at (Finish s.number) c.call-answered.result)
+    c.self.view_is c.call-answered.ensures in (
+      c.call-answered.result,
+      called,
+      finish-reply _ _ c.args.at c.args.self.now.number c.args.grant c.call-answered.result called c.requires.own ∙ ap (λ n. Released n) (sym c.spend.ensures),
+    )

@@ -1,0 +1,12 @@
+use Rattle.std.proofs.Common.{Some, refl, ap}
+use Rattle.sessions.specs.Granted.{SessionState}
+use Rattle.sessions.proofs.SessionLaws.{asking-reply, told-grant}
+use Rattle.sessions.proofs.session.Session.submit.Goals as goal
+
+pub told-requires : goal.told-requires
+told-requires g c = asking-reply _ _ c.args.at _ c.call-answered.result c.call-answered.ensures refl
+
+pub returns-clause-grant : goal.returns-clause-grant
+returns-clause-grant g c =
+    told-grant _ _ c.args.at c.args.self.now.number _ c.call-answered.result c.told.result c.call-answered.ensures
+    (ap (λ (s : SessionState). Some s.number) c.self.view_is) c.told.ensures.told
