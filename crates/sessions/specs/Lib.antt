@@ -2,6 +2,7 @@ pub mod Commands
 pub mod Ended
 pub mod Failures
 pub mod Granted
+pub mod Held
 pub mod Host
 pub mod Lines
 pub mod Numbers

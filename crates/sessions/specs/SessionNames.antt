@@ -4,7 +4,11 @@ use Rattle.std.specs.List.{list_any}
 use Rattle.rm_base.specs.declared.name.Name.{Name}
 use Rattle.rm_base.specs.Name.{same_name}
 use Rattle.rm_rules.specs.State.{without}
-use Rattle.sessions.specs.declared.names.Named.{Named}
+
+-- a session, by the script's name for it
+pub record Named : Type 0 where
+  pub name : Name
+  pub session : ℕ
 
 -- some session has this name
 abbrev pub is_used : List Named → Name → Bool

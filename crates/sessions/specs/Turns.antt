@@ -12,9 +12,8 @@ use Rattle.pool_sql.specs.Reading.{read_of}
 use Rattle.rm_rules.specs.Acceptance.{accepted, is_judged}
 use Rattle.rm_rules.specs.State.{State}
 use Rattle.rm_rules.specs.Step.{step}
-use Rattle.sessions.specs.declared.names.Named.{Named}
 use Rattle.sessions.specs.Commands.{Request, SetPool, Ask, Poll, Done, Close, Command, At, Sql, Open, Of}
-use Rattle.sessions.specs.SessionNames.{is_used, session_named, without_name}
+use Rattle.sessions.specs.SessionNames.{Named, is_used, session_named, without_name}
 use Rattle.sessions.specs.Texts.{line_text, queued_text, chosen_text, bare_text}
 
 -- the state of a script: the machine's, the script's names of the open sessions, and its moment
