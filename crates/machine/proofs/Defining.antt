@@ -1,21 +1,21 @@
 -- The pools after an accepted statement: as many by the same names, or one more behind them.
-use Rattle.std.proofs.Common.{◌≡◌, ◌<◌, ◌≤◌, ◌+◌, ℕ, Bool, true, false, List, [], ◌∷◌, ◌++◌, length, Ok, get_or, map, refl, sym, ap, ◌∙◌, subst, arith}
+use Rattle.std.proofs.Common.{◌≡◌, ◌<◌, ◌≤◌, ◌+◌, ℕ, Bool, true, false, List, [], ◌∷◌, ◌++◌, length, Some, Ok, get_or, map, refl, sym, ap, ◌∙◌, subst, arith}
 use Rattle.std.proofs.lemmas.Bool.{false≢true}
 use Rattle.std.proofs.lemmas.List.{length_push, map_push}
 use Rattle.rm_base.specs.declared.definitions.Definitions.{Definitions}
 use Rattle.rm_base.specs.declared.entry.EndCounts.{EndCounts}
+use Rattle.rm_base.specs.declared.name.Name.{Name}
 use Rattle.rm_base.specs.declared.rows.PoolRow.{PoolRow}
 use Rattle.rm_base.specs.declared.statement.Statement.{Statement}
 use Rattle.rm_rules.specs.declared.state.Reserve.{Reserve}
 use Rattle.rm_rules.specs.Definitions.{user_pools}
 use Rattle.rm_rules.specs.State.{State, none_ended}
 use Rattle.rm_rules.specs.Holdings.{Holdings, holdings_of}
-use Rattle.rm_rules.specs.Acceptance.{with_pool, accepted, is_judged}
+use Rattle.rm_rules.specs.Acceptance.{accepted, is_judged}
 use Rattle.rm_rules.specs.Change.{with_place, defined}
 use Rattle.rm_rules.specs.Sound.{IsSound, has_pool, begins_with_general}
 use Rattle.rm_rules.specs.Healthy.{AreSized}
-use Rattle.rm_rules.proofs.AcceptancePools.{length_with-there}
-use Rattle.rm_rules.proofs.Defining.{accepted-row, names-there, last-absent, user_named, user_push, place-same, place-more}
+use Rattle.rm_rules.proofs.Defining.{NamesAfter, keeps_names, adds_name, accepted-names, names-length, user_named, user_push, place-same, place-more}
 use Rattle.accounts.specs.Accounts.{names_in, with_pool as with_reserve}
 use Rattle.accounts.proofs.Standing.{kept-stand, added-stand}
 use Rattle.machine.specs.declared.machine.Machine.TheInside.{Inside}
@@ -37,48 +37,37 @@ item-last : {A : Type 0} (xs : List A) (y z : A) → get_or (xs ++ y ∷ []) (le
 item-last [] y z = refl
 item-last (x ∷ xs) y z = item-last xs y z
 
-cases : (d : Definitions) (row z : PoolRow) (b : Bool) → has_pool d row.name ≡ b → IsSound d
-    → (length d.pools < length (with_pool d row).pools → IsAdded d (with_pool d row) (get_or (with_pool d row).pools (length d.pools) z))
-    × (length (with_pool d row).pools ≤ length d.pools → IsAltered d (with_pool d row))
-cases d row z true there sound =
-    let count = length_with-there row d.pools there in (
-      λ more. absurd (omega (arith, more, count)),
-      λ few. record { names = user_named (with_pool d row).pools d.pools (names-there row d.pools there); count = count },
-    )
-cases d row z false absent sound =
-    let last = last-absent row d.pools absent in
-    let count : length (with_pool d row).pools ≡ length d.pools + 1 = ap (λ (l : List PoolRow). length l) last ∙ length_push d.pools row in
-    let added : IsAdded d (with_pool d row) row = record {
+one-more : (d new : Definitions) (z : PoolRow) → NamesAfter d new → IsSound d → length d.pools < length new.pools → IsAdded d new (get_or new.pools (length d.pools) z)
+one-more d new z (keeps_names same) sound more =
+    absurd (omega (arith, more, names-length new.pools, names-length d.pools, ap (λ (ns : List Name). length ns) same))
+one-more d new z (adds_name row absent last) sound more =
+    let item : get_or new.pools (length d.pools) z ≡ row = ap (λ (l : List PoolRow). get_or l (length d.pools) z) last ∙ item-last d.pools row z in
+    subst (λ (r : PoolRow). IsAdded d new r) (sym item) (record {
       absent = absent;
       names =
           ap (λ (l : List PoolRow). map (λ (r : PoolRow). r.name) (user_pools l)) last
           ∙ ap (λ (l : List PoolRow). map (λ (r : PoolRow). r.name) l) (user_push d.pools row sound.general_first)
           ∙ map_push (λ (r : PoolRow). r.name) (user_pools d.pools) row;
-      count = count;
-    } in
-    let item : get_or (with_pool d row).pools (length d.pools) z ≡ row = ap (λ (l : List PoolRow). get_or l (length d.pools) z) last ∙ item-last d.pools row z in (
-      λ more. subst (λ (r : PoolRow). IsAdded d (with_pool d row) r) (sym item) added,
-      λ few. absurd (omega (arith, few, count)),
-    )
+      count = ap (λ (l : List PoolRow). length l) last ∙ length_push d.pools row;
+    })
+
+as-many : (d new : Definitions) → NamesAfter d new → length new.pools ≤ length d.pools → IsAltered d new
+as-many d new (keeps_names same) few =
+    record { names = user_named new.pools d.pools same; count = omega (arith, names-length new.pools, names-length d.pools, ap (λ (ns : List Name). length ns) same) }
+as-many d new (adds_name row absent last) few = absurd (omega (arith, few, ap (λ (l : List PoolRow). length l) last, length_push d.pools row))
 
 -- which of both it is, the code sees by the number of pools
 pub added : (d new : Definitions) (statement : Statement) (z : PoolRow) (count : ℕ) (rows : List PoolRow) → IsSound d → is_judged statement ≡ true → accepted d statement ≡ Ok new
     → count ≡ length d.pools → rows ≡ new.pools → count < length rows → IsAdded d new (get_or rows count z)
 added d new statement z count rows sound judged accepts old now more =
-    let r = accepted-row d statement new judged accepts in
-    let h =
-    subst (λ (n : Definitions). length d.pools < length n.pools → IsAdded d n (get_or n.pools (length d.pools) z)) r.1
-    ((cases d r.0 z (has_pool d r.0.name) refl sound).0) in
     subst (λ (k : ℕ). IsAdded d new (get_or rows k z)) (sym old)
     (subst (λ (l : List PoolRow). IsAdded d new (get_or l (length d.pools) z)) (sym now)
-    (h (omega (arith, more, old, ap (λ (l : List PoolRow). length l) now))))
+    (one-more d new z (accepted-names d statement new accepts) sound (omega (arith, more, old, ap (λ (l : List PoolRow). length l) now))))
 
 pub altered : (d new : Definitions) (statement : Statement) (count : ℕ) (rows : List PoolRow) → IsSound d → is_judged statement ≡ true → accepted d statement ≡ Ok new
     → count ≡ length d.pools → rows ≡ new.pools → length rows ≤ count → IsAltered d new
 altered d new statement count rows sound judged accepts old now few =
-    let r = accepted-row d statement new judged accepts in
-    subst (λ (n : Definitions). length n.pools ≤ length d.pools → IsAltered d n) r.1 ((cases d r.0 r.0 (has_pool d r.0.name) refl sound).1)
-    (omega (arith, few, old, ap (λ (l : List PoolRow). length l) now))
+    as-many d new (accepted-names d statement new accepts) (omega (arith, few, old, ap (λ (l : List PoolRow). length l) now))
 
 -- there are as many reserves as pools but GENERAL
 sizes-count : (es : List Reserve) → length (map (λ (e : Reserve). e.size) es) ≡ length es

@@ -9,7 +9,7 @@ use Rattle.rm_base.specs.Name.{same_name}
 use Rattle.rm_base.proofs.Names.{same_name-eq, same_name-sym}
 use Rattle.rm_rules.specs.Definitions.{pool_called}
 use Rattle.rm_rules.specs.Sound.{are_distinct, chain_ends}
-use Rattle.rm_rules.specs.Acceptance.{with_row, chain, cascade_of, chain_from, length_through, longest_through}
+use Rattle.rm_rules.specs.PoolStatements.{pools_with, chain, cascade_of, chain_from, length_through, longest_through}
 use Rattle.pool_table.specs.Longest.{longest_of_others}
 use Rattle.rm_rules.proofs.Taken.{and_left, and_right, not_false, or_left_false, or_right_false}
 use Rattle.rm_rules.proofs.AcceptanceChains.{chain-some, chain-none}
@@ -49,8 +49,8 @@ absent after name (r ∷ rs) free =
 -- the longest chain after the statement starts at its pool, or at another
 others-turn : (after : List PoolRow) (row r : PoolRow) (rs : List PoolRow) (b : Bool) → same_name r.name row.name ≡ b
     → are_distinct (map (λ x. x.name) (r ∷ rs)) ≡ true
-    → longest_through after row.name (with_row row rs) ≡ max (length_through row.name (chain_from after row)) (longest_of_others after row.name rs)
-    → longest_through after row.name (cond b (row ∷ rs) (r ∷ with_row row rs))
+    → longest_through after row.name (pools_with row rs) ≡ max (length_through row.name (chain_from after row)) (longest_of_others after row.name rs)
+    → longest_through after row.name (cond b (row ∷ rs) (r ∷ pools_with row rs))
     ≡ max (length_through row.name (chain_from after row)) (max (cond (same_name row.name r.name) 0 (length_through row.name (chain_from after r))) (longest_of_others after row.name rs))
 others-turn after row r rs true e distinct behind =
     let same : same_name row.name r.name ≡ true = same_name-sym row.name r.name ∙ e in
@@ -66,7 +66,7 @@ others-turn after row r rs false e distinct behind =
     ∙ ap (λ b. max (length_through row.name (chain_from after row)) (max (cond b 0 (length_through row.name (chain_from after r))) (longest_of_others after row.name rs))) (sym apart)
 
 pub longest-others : (after : List PoolRow) (row : PoolRow) (rs : List PoolRow) → are_distinct (map (λ r. r.name) rs) ≡ true
-    → longest_through after row.name (with_row row rs) ≡ max (length_through row.name (chain_from after row)) (longest_of_others after row.name rs)
+    → longest_through after row.name (pools_with row rs) ≡ max (length_through row.name (chain_from after row)) (longest_of_others after row.name rs)
 longest-others after row [] distinct = refl
 longest-others after row (r ∷ rs) distinct =
     others-turn after row r rs (same_name r.name row.name) refl distinct

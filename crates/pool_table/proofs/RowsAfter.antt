@@ -6,15 +6,16 @@ use Rattle.rm_base.specs.declared.rows.PoolRow.{PoolRow}
 use Rattle.rm_base.specs.declared.name.Name.{Name}
 use Rattle.rm_base.specs.Name.{same_name, general}
 use Rattle.rm_rules.specs.Definitions.{pool_called, pool_row, total, reserved, usable}
-use Rattle.rm_rules.specs.Acceptance.{with_row, with_pool}
-use Rattle.rm_rules.proofs.AcceptancePools.{called_with, reserved_with, memory_of-within}
-use Rattle.rm_rules.proofs.AcceptanceLaws.{total-with}
+use Rattle.rm_rules.specs.PoolStatements.{pools_with, with_pool}
+use Rattle.rm_rules.proofs.Rows.{called_with}
+use Rattle.rm_rules.proofs.AcceptancePools.{reserved_with, memory_of-within}
+use Rattle.rm_rules.proofs.PoolLaws.{total-with}
 
-pub called-here : (row : PoolRow) (rows : List PoolRow) (name : Name) → same_name row.name name ≡ true → Some row ≡ pool_called (with_row row rows) name
-called-here row rows name is = sym (called_with row rows name ∙ ap (λ b. cond b (Some row) (pool_called rows name)) is)
+pub called-here : (row : PoolRow) (rows : List PoolRow) (name : Name) → same_name row.name name ≡ true → Some row ≡ pool_called (pools_with row rows) name
+called-here row rows name is = sym (called_with (λ (r : PoolRow). r.name) row rows name ∙ ap (λ b. cond b (Some row) (pool_called rows name)) is)
 
-pub called-apart : (row : PoolRow) (rows : List PoolRow) (name : Name) → same_name row.name name ≡ false → pool_called rows name ≡ pool_called (with_row row rows) name
-called-apart row rows name is = sym (called_with row rows name ∙ ap (λ b. cond b (Some row) (pool_called rows name)) is)
+pub called-apart : (row : PoolRow) (rows : List PoolRow) (name : Name) → same_name row.name name ≡ false → pool_called rows name ≡ pool_called (pools_with row rows) name
+called-apart row rows name is = sym (called_with (λ (r : PoolRow). r.name) row rows name ∙ ap (λ b. cond b (Some row) (pool_called rows name)) is)
 
 pub total-here : (d : Definitions) (row : PoolRow) → same_name row.name general ≡ true → unwrap_or row.max (usable d.memory) ≡ total (with_pool d row)
 total-here d row is = sym (total-with d row ∙ ap (λ b. cond b (unwrap_or row.max (usable d.memory)) (total d)) is)

@@ -3,7 +3,7 @@ use Rattle.std.specs.Prelude.{ℕ, List, [], ◌∷◌, max, if◌then◌else◌
 use Rattle.rm_base.specs.declared.rows.PoolRow.{PoolRow}
 use Rattle.rm_base.specs.declared.name.Name.{Name}
 use Rattle.rm_base.specs.Name.{same_name}
-use Rattle.rm_rules.specs.Acceptance.{chain_from, length_through}
+use Rattle.rm_rules.specs.PoolStatements.{chain_from, length_through}
 
 -- how many pools the chain from another pool has, where it goes through this one
 abbrev pub other_length : List PoolRow → Name → PoolRow → ℕ

@@ -4,7 +4,7 @@ ghost use Rattle.rm_base.specs.declared.limits.TheConstants.{MEMORY_MOST, POOLS_
 ghost use Rattle.rm_rules.specs.Definitions.{pool_called, total, reserved};
 ghost use Rattle.rm_rules.specs.Sound.{IsSound};
 ghost use Rattle.rm_base.specs.Ranges.{is_pool_in_range};
-ghost use Rattle.rm_rules.specs.Acceptance.{with_row, with_pool};
+ghost use Rattle.rm_rules.specs.PoolStatements.{pools_with, with_pool};
 
 use rm_base::definitions::Definitions;
 use rm_base::name::Name;
@@ -12,7 +12,7 @@ use rm_base::rows::PoolRow;
 use rm_rules::readings::{pool_called, pool_row, reserved, total, usable};
 
 pub fn called_after(rows: &[PoolRow], row: &PoolRow, name: Name) -> Option<PoolRow>
-    ensures { result ≡ pool_called (with_row row.now rows.now) name }
+    ensures { result ≡ pool_called (pools_with row.now rows.now) name }
 {
     if row.name.same(name) {
         return Some(*row);

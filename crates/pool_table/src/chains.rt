@@ -5,7 +5,7 @@ ghost use Rattle.rm_base.specs.declared.limits.TheConstants.{POOLS_MOST};
 ghost use Rattle.rm_base.specs.Name.{same_name};
 ghost use Rattle.rm_rules.specs.Sound.{IsSound, chain_ends};
 ghost use Rattle.pool_table.specs.Longest.{other_length, longest_of_others};
-ghost use Rattle.rm_rules.specs.Acceptance.{with_row, with_pool, cascade_of, chain, chain_from, length_through, longest_through};
+ghost use Rattle.rm_rules.specs.PoolStatements.{pools_with, with_pool, cascade_of, chain, chain_from, length_through, longest_through};
 
 use crate::after::called_after;
 use rm_base::definitions::Definitions;
@@ -31,14 +31,14 @@ pub fn chain_ends(rows: &[PoolRow], next: Option<Name>, most: u32) -> bool
 }
 
 fn cascade_of(rows: &[PoolRow], row: &PoolRow, name: Name) -> Option<Name>
-    ensures { result ≡ cascade_of (with_row row.now rows.now) name }
+    ensures { result ≡ cascade_of (pools_with row.now rows.now) name }
 {
     called_after(rows, row, name).and_then(|r| r.cascade)
 }
 
 /// Whether the pool of the row stands on a chain, of which so many pools are read.
 pub fn is_on_chain(rows: &[PoolRow], row: &PoolRow, next: Option<Name>, most: usize) -> bool
-    ensures { result ≡ list_any (same_name row.now.name) (chain (with_row row.now rows.now) most next) }
+    ensures { result ≡ list_any (same_name row.now.name) (chain (pools_with row.now rows.now) most next) }
 {
     if most == 0 {
         return false;
@@ -53,7 +53,7 @@ pub fn is_on_chain(rows: &[PoolRow], row: &PoolRow, next: Option<Name>, most: us
 
 /// How many pools a chain has, of which so many are read.
 fn chain_length(rows: &[PoolRow], row: &PoolRow, next: Option<Name>, most: usize) -> usize
-    ensures value { result ≡ length (chain (with_row row.now rows.now) most next) }
+    ensures value { result ≡ length (chain (pools_with row.now rows.now) most next) }
     ensures most { result ≤ most }
 {
     if most == 0 {
@@ -67,7 +67,7 @@ fn chain_length(rows: &[PoolRow], row: &PoolRow, next: Option<Name>, most: usize
 
 /// How many pools the chain from this start has, where the pool of the row stands on it.
 fn length_through(rows: &[PoolRow], row: &PoolRow, start: &PoolRow) -> usize
-    ensures value { result ≡ length_through row.now.name (chain_from (with_row row.now rows.now) start.now) }
+    ensures value { result ≡ length_through row.now.name (chain_from (pools_with row.now rows.now) start.now) }
     ensures most { result ≤ POOLS_MOST + 1 }
 {
     if row.name.same(start.name) || is_on_chain(rows, row, start.cascade, POOLS_MOST) {
@@ -78,7 +78,7 @@ fn length_through(rows: &[PoolRow], row: &PoolRow, start: &PoolRow) -> usize
 }
 
 fn other_length(rows: &[PoolRow], row: &PoolRow, start: &PoolRow) -> usize
-    ensures value { result ≡ other_length (with_row row.now rows.now) row.now.name start.now }
+    ensures value { result ≡ other_length (pools_with row.now rows.now) row.now.name start.now }
     ensures most { result ≤ POOLS_MOST + 1 }
 {
     if row.name.same(start.name) {
@@ -89,7 +89,7 @@ fn other_length(rows: &[PoolRow], row: &PoolRow, start: &PoolRow) -> usize
 }
 
 fn longest_of_others(rows: &[PoolRow], row: &PoolRow, starts: &[PoolRow]) -> usize
-    ensures value { result ≡ longest_of_others (with_row row.now rows.now) row.now.name starts.now }
+    ensures value { result ≡ longest_of_others (pools_with row.now rows.now) row.now.name starts.now }
     ensures most { result ≤ POOLS_MOST + 1 }
 {
     match starts {

@@ -2,31 +2,42 @@
 //! memory.
 #![tactic(auto)]
 
-ghost use Rattle.std.specs.Prelude.{◌≡◌, ◌<◌, ◌≤◌, Ok, Err, Some, None, length, IsTrue, IsOk, IfErr, OnOk};
-ghost use Rattle.std.specs.List.{position};
-ghost use Rattle.rm_base.specs.declared.limits.TheConstants.{POOLS_MOST, CHANGES_MOST};
-ghost use Rattle.rm_base.specs.Name.{same_name};
+ghost use Rattle.std.specs.Prelude.{◌≡◌, Ok, Err, None, IsTrue, IsOk, IfErr, OnOk};
 ghost use Rattle.rm_base.specs.Ranges.{is_statement_in_range};
 ghost use Rattle.rm_rules.specs.Sound.{IsSound};
-ghost use Rattle.rm_rules.specs.Acceptance.{is_judged, with_row, with_pool, accepted};
+ghost use Rattle.rm_rules.specs.Acceptance.{is_judged, refusal_of, left_by, accepted};
 
 mod after;
 mod chains;
+mod grants;
+mod known;
+mod pools;
 mod refusals;
-mod rows;
+mod rights;
+mod roles;
+mod sizes;
 mod soundness;
+mod tables;
 mod users;
 
-use crate::refusals::{alter_refusal, create_refusal};
-use crate::rows::{altered_row, created_row};
+use crate::grants::{
+    grant_role, grant_role_refusal, grant_usage, grant_usage_refusal, revoke_role,
+    revoke_role_refusal, revoke_usage, revoke_usage_refusal,
+};
+use crate::pools::{
+    alter_pool, alter_pool_refusal, altered_pool, create_pool, create_pool_refusal, created_pool,
+};
+use crate::roles::{
+    alter_role_refusal, create_role_refusal, drop_role, drop_role_refusal, set_role,
+};
+use crate::users::{
+    alter_user, alter_user_refusal, create_user, create_user_refusal, drop_user, drop_user_refusal,
+};
+pub use rights::{default_pool, usage};
 use rm_base::definitions::Definitions;
-use rm_base::name::Name;
 use rm_base::refusal::Refusal;
-use rm_base::rows::PoolRow;
 use rm_base::statement::Statement;
-use rm_base::tables::Pools;
 pub use soundness::sound;
-pub use users::{default_pool, usage};
 
 /// Whether a statement is accepted, or the first of the refusals that hold, in the order of their numbers.
 pub fn accept(definitions: &Definitions, statement: &Statement) -> Result<(), Refusal>
@@ -36,26 +47,9 @@ pub fn accept(definitions: &Definitions, statement: &Statement) -> Result<(), Re
     ensures ok { OnOk result (IsOk (accepted definitions.now statement.now)) }
     ensures err { IfErr result (λ refusal. accepted definitions.now statement.now ≡ Err refusal) }
 {
-    match statement {
-        Statement::CreatePool(name, change) => {
-            let row = created_row(definitions, *name, change);
-            unless_refused(create_refusal(definitions, *name, &row))
-        }
-        Statement::AlterPool(name, change) => {
-            let row = altered_row(definitions, *name, change);
-            unless_refused(alter_refusal(definitions, *name, change, &row))
-        }
-        Statement::DropPool(..)
-        | Statement::CreateUser(..)
-        | Statement::AlterUser(..)
-        | Statement::DropUser(..)
-        | Statement::CreateRole(..)
-        | Statement::AlterRole(..)
-        | Statement::DropRole(..)
-        | Statement::GrantUsage(..)
-        | Statement::RevokeUsage(..)
-        | Statement::GrantRole(..)
-        | Statement::RevokeRole(..) => Ok(()),
+    match refusal_of(definitions, statement) {
+        None => Ok(()),
+        Some(refusal) => Err(refusal),
     }
 }
 
@@ -68,63 +62,59 @@ pub fn apply(definitions: &mut Definitions, statement: &Statement)
     ensures changed { accepted definitions.old statement.now ≡ Ok definitions.new }
     ensures sound { IsSound definitions.new }
 {
+    change(definitions, statement);
+    definitions.changes += 1;
+}
+
+/// Why a statement is refused.
+fn refusal_of(definitions: &Definitions, statement: &Statement) -> Option<Refusal>
+    requires sound { IsSound definitions.now }
+    requires formed { IsTrue (is_statement_in_range statement.now) }
+    ensures { result ≡ refusal_of definitions.now statement.now }
+{
     match statement {
         Statement::CreatePool(name, change) => {
-            let row = created_row(definitions, *name, change);
-            put_row(definitions, row);
+            let row = created_pool(definitions, *name, change);
+            create_pool_refusal(definitions, *name, &row)
         }
         Statement::AlterPool(name, change) => {
-            let row = altered_row(definitions, *name, change);
-            put_row(definitions, row);
+            let row = altered_pool(definitions, *name, change);
+            alter_pool_refusal(definitions, *name, change, &row)
         }
-        Statement::DropPool(..)
-        | Statement::CreateUser(..)
-        | Statement::AlterUser(..)
-        | Statement::DropUser(..)
-        | Statement::CreateRole(..)
-        | Statement::AlterRole(..)
-        | Statement::DropRole(..)
-        | Statement::GrantUsage(..)
-        | Statement::RevokeUsage(..)
-        | Statement::GrantRole(..)
-        | Statement::RevokeRole(..) => {}
+        Statement::DropPool(_) => None,
+        Statement::CreateUser(name, change) => create_user_refusal(definitions, *name, change),
+        Statement::AlterUser(name, change) => alter_user_refusal(definitions, *name, change),
+        Statement::DropUser(name) => drop_user_refusal(definitions, *name),
+        Statement::CreateRole(name) => create_role_refusal(definitions, *name),
+        Statement::AlterRole(name, pool) => alter_role_refusal(definitions, *name, *pool),
+        Statement::DropRole(name) => drop_role_refusal(definitions, *name),
+        Statement::GrantUsage(pool, grantee) => grant_usage_refusal(definitions, *pool, *grantee),
+        Statement::RevokeUsage(pool, grantee) => revoke_usage_refusal(definitions, *pool, *grantee),
+        Statement::GrantRole(role, user) => grant_role_refusal(definitions, *role, *user),
+        Statement::RevokeRole(role, user) => revoke_role_refusal(definitions, *role, *user),
     }
 }
 
-fn unless_refused(refusal: Option<Refusal>) -> Result<(), Refusal>
-    ensures ok { OnOk result (refusal ≡ None) }
-    ensures err { IfErr result (λ r. refusal ≡ Some r) }
+/// Makes the change of a statement that is not refused, but does not count it.
+fn change(definitions: &mut Definitions, statement: &Statement)
+    requires sound { IsSound definitions.old }
+    requires formed { IsTrue (is_statement_in_range statement.now) }
+    requires left { IsSound (left_by definitions.old statement.now) }
+    ensures { definitions.new ≡ left_by definitions.old statement.now }
 {
-    match refusal {
-        None => Ok(()),
-        Some(refusal) => Err(refusal),
+    match statement {
+        Statement::CreatePool(name, change) => create_pool(definitions, *name, change),
+        Statement::AlterPool(name, change) => alter_pool(definitions, *name, change),
+        Statement::DropPool(_) => {}
+        Statement::CreateUser(name, change) => create_user(definitions, *name, change),
+        Statement::AlterUser(name, change) => alter_user(definitions, *name, change),
+        Statement::DropUser(name) => drop_user(definitions, *name),
+        Statement::CreateRole(name) => set_role(definitions, *name, None),
+        Statement::AlterRole(name, pool) => set_role(definitions, *name, *pool),
+        Statement::DropRole(name) => drop_role(definitions, *name),
+        Statement::GrantUsage(pool, grantee) => grant_usage(definitions, *pool, *grantee),
+        Statement::RevokeUsage(pool, grantee) => revoke_usage(definitions, *pool, *grantee),
+        Statement::GrantRole(role, user) => grant_role(definitions, *role, *user),
+        Statement::RevokeRole(role, user) => revoke_role(definitions, *role, *user),
     }
-}
-
-/// The place of the first pool of this name.
-fn place_of(rows: &[PoolRow], name: Name) -> Option<usize>
-    ensures { result ≡ position (λ r. same_name r.name name) rows.now }
-{
-    rows.iter().position(|r| r.name.same(name))
-}
-
-/// Puts the row in the place of the pool of its name, or at the end.
-fn put_pool(pools: &mut Pools, row: PoolRow)
-    requires { length (with_row row pools.old) ≤ POOLS_MOST }
-    ensures { pools.new ≡ with_row row pools.old }
-{
-    match place_of(pools.rows(), row.name) {
-        Some(place) => pools.set(place, row),
-        None => pools.add(row),
-    }
-}
-
-/// Puts the row in its place, and counts the change.
-fn put_row(definitions: &mut Definitions, row: PoolRow)
-    requires room { length (with_row row definitions.old.pools) ≤ POOLS_MOST }
-    requires changes { definitions.old.changes < CHANGES_MOST }
-    ensures { definitions.new ≡ with_pool definitions.old row }
-{
-    put_pool(&mut definitions.pools, row);
-    definitions.changes += 1;
 }

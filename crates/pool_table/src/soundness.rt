@@ -1,14 +1,15 @@
 //! Whether definitions are sound.
-ghost use Rattle.std.specs.Prelude.{◌≡◌, ◌-◌, ◌≤◌, ◌↔◌, ◌++◌, IsTrue, is_some, map, nat_le};
+ghost use Rattle.std.specs.Prelude.{◌≡◌, ◌-◌, ◌≤◌, ◌↔◌, ◌++◌, IsTrue, map, nat_le};
 ghost use Rattle.std.specs.List.{list_all, list_any};
 ghost use Rattle.rm_base.specs.declared.limits.TheConstants.{MEMORY_MOST, CONCURRENCY_MOST, SPAN_MOST, CHAIN_MOST};
 ghost use Rattle.rm_base.specs.Name.{same_name};
-ghost use Rattle.rm_rules.specs.Definitions.{user_called, role_called};
-ghost use Rattle.rm_rules.specs.Sound.{IsSound, begins_with_general, are_distinct, is_within_max, has_pool, chain_ends, is_grant_known, same_grant, are_grants_distinct};
+ghost use Rattle.rm_rules.specs.Sound.{IsSound, begins_with_general, are_distinct, is_within_max, has_pool, chain_ends, is_grant_known, are_grants_distinct};
 ghost use Rattle.rm_base.specs.Ranges.{passes_if_set, is_between, is_priority, is_pool_in_range, is_user_in_range};
 ghost use Rattle.pool_table.specs.Soundness.{are_numbers_in_range, are_counts_in_range, are_values_in_range, are_names_right, is_total_right, are_links_right};
 
 use crate::chains::chain_ends;
+use crate::grants::has_grant;
+use crate::known::{has_pool, has_role, has_user};
 use rm_base::definitions::Definitions;
 use rm_base::limits::{
     CHAIN_MOST, CHANGES_MOST, CONCURRENCY_MOST, CORES_MOST, GENERAL_PART, GRANTS_MOST,
@@ -17,7 +18,7 @@ use rm_base::limits::{
 };
 use rm_base::name::Name;
 use rm_base::rows::{GrantRow, PoolRow, RoleRow, UserRow};
-use rm_rules::readings::{pool_called, reserved, role_called, total, user_called};
+use rm_rules::readings::{reserved, total};
 
 /// Whether the definitions are sound: what every accepted statement keeps.
 pub fn sound(definitions: &Definitions) -> bool
@@ -60,7 +61,7 @@ fn are_names_right(definitions: &Definitions) -> bool
     let pools = definitions.pools.rows();
     let users = definitions.users.rows();
     begins_with_general(pools)
-        && (has_user(users, Name::dbadmin())
+        && (has_user(definitions, Name::dbadmin())
             && (are_pools_distinct(pools) && are_users_distinct(users, definitions.roles.rows())))
 }
 
@@ -253,24 +254,6 @@ fn are_users_distinct(users: &[UserRow], roles: &[RoleRow]) -> bool
     }
 }
 
-fn has_user(users: &[UserRow], name: Name) -> bool
-    ensures { result ≡ is_some (user_called users.now name) }
-{
-    user_called(users, name).is_some()
-}
-
-fn has_role(roles: &[RoleRow], name: Name) -> bool
-    ensures { result ≡ is_some (role_called roles.now name) }
-{
-    role_called(roles, name).is_some()
-}
-
-pub fn has_pool(definitions: &Definitions, name: Name) -> bool
-    ensures { result ≡ has_pool definitions.now name }
-{
-    pool_called(definitions.pools.rows(), name).is_some()
-}
-
 fn is_pool_there(definitions: &Definitions, pool: Option<Name>) -> bool
     ensures { result ≡ passes_if_set (has_pool definitions.now) pool }
 {
@@ -283,42 +266,17 @@ fn is_pool_there(definitions: &Definitions, pool: Option<Name>) -> bool
 fn is_grant_known(definitions: &Definitions, grant: &GrantRow) -> bool
     ensures { result ≡ is_grant_known definitions.now grant.now }
 {
-    let users = definitions.users.rows();
-    let roles = definitions.roles.rows();
     match grant {
         GrantRow::PoolToUser(pool, user) => {
-            has_pool(definitions, *pool) && has_user(users, *user)
+            has_pool(definitions, *pool) && has_user(definitions, *user)
         }
         GrantRow::PoolToRole(pool, role) => {
-            has_pool(definitions, *pool) && has_role(roles, *role)
+            has_pool(definitions, *pool) && has_role(definitions, *role)
         }
-        GrantRow::RoleToUser(role, user) => has_role(roles, *role) && has_user(users, *user),
+        GrantRow::RoleToUser(role, user) => {
+            has_role(definitions, *role) && has_user(definitions, *user)
+        }
     }
-}
-
-fn same_grant(a: &GrantRow, b: &GrantRow) -> bool
-    ensures { result ≡ same_grant a.now b.now }
-{
-    match a {
-        GrantRow::PoolToUser(pool, user) => match b {
-            GrantRow::PoolToUser(p, u) => pool.same(*p) && user.same(*u),
-            GrantRow::PoolToRole(..) | GrantRow::RoleToUser(..) => false,
-        },
-        GrantRow::PoolToRole(pool, role) => match b {
-            GrantRow::PoolToRole(p, r) => pool.same(*p) && role.same(*r),
-            GrantRow::PoolToUser(..) | GrantRow::RoleToUser(..) => false,
-        },
-        GrantRow::RoleToUser(role, user) => match b {
-            GrantRow::RoleToUser(r, u) => role.same(*r) && user.same(*u),
-            GrantRow::PoolToUser(..) | GrantRow::PoolToRole(..) => false,
-        },
-    }
-}
-
-fn has_grant(grant: &GrantRow, grants: &[GrantRow]) -> bool
-    ensures { result ≡ list_any (same_grant grant.now) grants.now }
-{
-    grants.iter().any(|g| same_grant(grant, g))
 }
 
 fn are_grants_distinct(grants: &[GrantRow]) -> bool
@@ -326,6 +284,6 @@ fn are_grants_distinct(grants: &[GrantRow]) -> bool
 {
     match grants {
         [] => true,
-        [first, rest @ ..] => !has_grant(first, rest) && are_grants_distinct(rest),
+        [first, rest @ ..] => !has_grant(rest, first) && are_grants_distinct(rest),
     }
 }

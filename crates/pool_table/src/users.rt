@@ -1,101 +1,167 @@
-//! What the definitions give a user: USAGE and a default pool.
-ghost use Rattle.std.specs.Prelude.{◌≡◌};
-ghost use Rattle.std.specs.List.{list_any};
-ghost use Rattle.rm_base.specs.Name.{same_name, general, dbadmin};
-ghost use Rattle.rm_rules.specs.Definitions.{is_member_by, is_member, gives_usage, usage, pool_by_role, role_pool, default_pool};
+//! CREATE, ALTER and DROP USER: what they leave, and what they are refused with.
+ghost use Rattle.std.specs.Prelude.{◌≡◌, ◌≤◌, length};
+ghost use Rattle.rm_base.specs.declared.limits.TheConstants.{USERS_MOST};
+ghost use Rattle.rm_rules.specs.Definitions.{usage};
+ghost use Rattle.rm_rules.specs.Sound.{IsSound};
+ghost use Rattle.rm_rules.specs.UserStatements.{user_row, changed_user, created_user, altered_user, given_pool, with_user, names_user, without_user, user_built_in, users_full, not_granted, create_user_refusal, alter_user_refusal, drop_user_refusal};
 
-use rm_base::definitions::Definitions;
+use crate::refusals::{
+    changes_full, first_refusal, given_pool_missing, grantee_taken, refused_if, table_full,
+    user_missing,
+};
+use crate::rights::usage;
+use crate::sizes::limit_or;
+use crate::tables::put;
+use rm_base::definitions::{Definitions, default_user_row};
+use rm_base::limits::USERS_MOST;
 use rm_base::name::Name;
-use rm_base::rows::{GrantRow, RoleRow};
-use rm_rules::readings::{role_called, user_called};
+use rm_base::refusal::{Refusal, TableKind};
+use rm_base::rows::{GrantRow, UserRow};
+use rm_base::statement::UserChange;
+use rm_rules::readings::{total, user_called};
 
-/// Whether the user may use the pool. Everyone may use GENERAL, and `dbadmin` every pool.
-pub fn usage(definitions: &Definitions, user: Name, pool: Name) -> bool
-    ensures { result ≡ usage definitions.now user pool }
+/// The user's row; a user that is not there is read as one with all defaults.
+fn user_row(definitions: &Definitions, name: Name) -> UserRow
+    ensures { result ≡ user_row definitions.now name }
 {
-    is_general(pool) || (is_dbadmin(user) || is_granted(definitions.grants.rows(), user, pool))
+    user_called(definitions.users.rows(), name).unwrap_or(default_user_row(name))
 }
 
-/// The user's own pool, else that of its first role that has one, in the order of the grants, else GENERAL.
-pub fn default_pool(definitions: &Definitions, user: Name) -> Name
-    ensures { result ≡ default_pool definitions.now user }
+fn changed_user(definitions: &Definitions, user: &UserRow, change: &UserChange) -> UserRow
+    requires { IsSound definitions.now }
+    ensures { result ≡ changed_user definitions.now user.now change.now }
 {
-    let own = user_called(definitions.users.rows(), user).and_then(|row| row.pool);
-    let by_role = role_pool(definitions.roles.rows(), user, definitions.grants.rows());
-    own.unwrap_or(by_role.unwrap_or(Name::general()))
+    let total = total(definitions);
+    UserRow {
+        name: user.name,
+        pool: change.pool.unwrap_or(user.pool),
+        memory_cap: limit_or(total, change.memory_cap, user.memory_cap),
+        cap_ms: change.cap_ms.unwrap_or(user.cap_ms),
+    }
 }
 
-fn is_general(pool: Name) -> bool
-    ensures { result ≡ same_name pool general }
+fn created_user(definitions: &Definitions, name: Name, change: &UserChange) -> UserRow
+    requires { IsSound definitions.now }
+    ensures { result ≡ created_user definitions.now name change.now }
 {
-    pool.same(Name::general())
+    changed_user(definitions, &default_user_row(name), change)
 }
 
-fn is_dbadmin(user: Name) -> bool
-    ensures { result ≡ same_name user dbadmin }
+fn altered_user(definitions: &Definitions, name: Name, change: &UserChange) -> UserRow
+    requires { IsSound definitions.now }
+    ensures { result ≡ altered_user definitions.now name change.now }
 {
-    user.same(Name::dbadmin())
+    changed_user(definitions, &user_row(definitions, name), change)
 }
 
-/// Whether the grant makes the user a member of the role.
-fn is_member_by(user: Name, role: Name, grant: GrantRow) -> bool
-    ensures { result ≡ is_member_by user role grant }
+pub fn create_user(definitions: &mut Definitions, name: Name, change: &UserChange)
+    requires sound { IsSound definitions.old }
+    requires room { length (with_user definitions.old (created_user definitions.old name change.now)).users ≤ USERS_MOST }
+    ensures { definitions.new ≡ with_user definitions.old (created_user definitions.old name change.now) }
+{
+    let row = created_user(definitions, name, change);
+    put(&mut definitions.users, row);
+}
+
+pub fn alter_user(definitions: &mut Definitions, name: Name, change: &UserChange)
+    requires sound { IsSound definitions.old }
+    requires room { length (with_user definitions.old (altered_user definitions.old name change.now)).users ≤ USERS_MOST }
+    ensures { definitions.new ≡ with_user definitions.old (altered_user definitions.old name change.now) }
+{
+    let row = altered_user(definitions, name, change);
+    put(&mut definitions.users, row);
+}
+
+/// Whether the grant is one to the user.
+fn names_user(user: Name, grant: &GrantRow) -> bool
+    ensures { result ≡ names_user user grant.now }
 {
     match grant {
-        GrantRow::RoleToUser(r, u) => r.same(role) && u.same(user),
-        GrantRow::PoolToUser(..) | GrantRow::PoolToRole(..) => false,
+        GrantRow::PoolToUser(_, u) => u.same(user),
+        GrantRow::PoolToRole(..) => false,
+        GrantRow::RoleToUser(_, u) => u.same(user),
     }
 }
 
-fn is_member(grants: &[GrantRow], user: Name, role: Name) -> bool
-    ensures { result ≡ is_member grants.now user role }
+/// Takes the user away, with the grants that name it.
+pub fn drop_user(definitions: &mut Definitions, name: Name)
+    ensures { definitions.new ≡ without_user definitions.old name }
 {
-    grants.iter().any(|g| is_member_by(user, role, *g))
+    definitions.users.retain(|u| !u.name.same(name));
+    definitions.grants.retain(|g| !names_user(name, g));
 }
 
-/// Whether the grant gives the pool to the user, or to a role of the user.
-fn gives_usage(grants: &[GrantRow], user: Name, pool: Name, grant: GrantRow) -> bool
-    ensures { result ≡ gives_usage grants.now user pool grant }
+/// The pool that a statement gives the user, or none.
+fn given_pool(change: &UserChange) -> Option<Name>
+    ensures { result ≡ given_pool change.now }
 {
-    match grant {
-        GrantRow::PoolToUser(p, u) => p.same(pool) && u.same(user),
-        GrantRow::PoolToRole(p, r) => p.same(pool) && is_member(grants, user, r),
-        GrantRow::RoleToUser(..) => false,
+    change.pool.unwrap_or(None)
+}
+
+fn user_built_in(name: Name) -> Option<Refusal>
+    ensures { result ≡ user_built_in name }
+{
+    refused_if(name.same(Name::dbadmin()), Refusal::BuiltIn)
+}
+
+fn users_full(definitions: &Definitions) -> Option<Refusal>
+    ensures { result ≡ users_full definitions.now }
+{
+    let count = definitions.users.len() as u32;
+    table_full(TableKind::Users, USERS_MOST as u32, count)
+}
+
+fn not_granted(definitions: &Definitions, user: Name, pool: Option<Name>) -> Option<Refusal>
+    ensures { result ≡ not_granted (usage definitions.now user) pool }
+{
+    match pool {
+        None => None,
+        Some(pool) => refused_if(!usage(definitions, user, pool), Refusal::NotGranted(pool)),
     }
 }
 
-/// Whether some grant gives the pool to the user, or to a role of the user.
-fn is_granted(grants: &[GrantRow], user: Name, pool: Name) -> bool
-    ensures { result ≡ list_any (gives_usage grants.now user pool) grants.now }
+/// Why a user is not created.
+pub fn create_user_refusal(
+    definitions: &Definitions,
+    name: Name,
+    change: &UserChange,
+) -> Option<Refusal>
+    ensures { result ≡ create_user_refusal definitions.now name change.now }
 {
-    grants.iter().any(|g| gives_usage(grants, user, pool, *g))
+    let pool = given_pool(change);
+    first_refusal(&[
+        grantee_taken(definitions, name),
+        given_pool_missing(definitions, pool),
+        users_full(definitions),
+        changes_full(definitions),
+        not_granted(definitions, name, pool),
+    ])
 }
 
-/// The pool of a role, where the grant makes the user a member of it.
-fn pool_by_role(roles: &[RoleRow], user: Name, grant: GrantRow) -> Option<Name>
-    ensures { result ≡ pool_by_role roles.now user grant }
+/// Why a user is not altered.
+pub fn alter_user_refusal(
+    definitions: &Definitions,
+    name: Name,
+    change: &UserChange,
+) -> Option<Refusal>
+    ensures { result ≡ alter_user_refusal definitions.now name change.now }
 {
-    match grant {
-        GrantRow::RoleToUser(r, u) => {
-            if u.same(user) {
-                role_called(roles, r).and_then(|row| row.pool)
-            } else {
-                None
-            }
-        }
-        GrantRow::PoolToUser(..) | GrantRow::PoolToRole(..) => None,
-    }
+    let pool = given_pool(change);
+    first_refusal(&[
+        given_pool_missing(definitions, pool),
+        user_missing(definitions, name),
+        changes_full(definitions),
+        not_granted(definitions, name, pool),
+    ])
 }
 
-/// The pool of the first role, in the order of the grants, that has one.
-fn role_pool(roles: &[RoleRow], user: Name, grants: &[GrantRow]) -> Option<Name>
-    ensures { result ≡ role_pool roles.now user grants.now }
+/// Why a user is not dropped.
+pub fn drop_user_refusal(definitions: &Definitions, name: Name) -> Option<Refusal>
+    ensures { result ≡ drop_user_refusal definitions.now name }
 {
-    for grant in grants {
-        let pool = pool_by_role(roles, user, *grant);
-        if pool.is_some() {
-            return pool;
-        }
-    }
-    None
+    first_refusal(&[
+        user_missing(definitions, name),
+        user_built_in(name),
+        changes_full(definitions),
+    ])
 }

@@ -1,4 +1,6 @@
 ghost use Rattle.std.specs.Prelude.{◌≡◌, ◌<◌, ◌≤◌, ◌↔◌, [], ◌∷◌, ◌++◌, length, slice_set, slice_index_or, remove, IfOk, IsTrue};
+ghost use Rattle.std.specs.Fn.{CalledAt};
+ghost use Rattle.std.specs.List.Retain.{IsFiltered};
 
 use std::alloc::{AllocError, Global};
 use std::marker::Model;
@@ -72,6 +74,16 @@ impl<T, const MOST: usize> Bounded<T, MOST> {
         ensures rest { self.new ≡ remove self.old index }
     {
         self.rows.remove(index)
+    }
+}
+
+impl<T: Drop, const MOST: usize> Bounded<T, MOST> {
+    /// Keeps the rows that pass the test, in their order.
+    pub fn retain<F: FnMut(&T) -> bool>(&mut self, keep: F)
+        requires { F.IsAlwaysCallable keep }
+        ensures { IsFiltered (CalledAt F.FnMut) keep self.old self.new }
+    {
+        self.rows.retain(keep);
     }
 }
 

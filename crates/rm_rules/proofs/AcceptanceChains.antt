@@ -9,7 +9,7 @@ use Rattle.rm_base.specs.Name.{same_name}
 use Rattle.rm_rules.specs.Definitions.{pool_called}
 use Rattle.rm_rules.specs.Sound.{chain_ends}
 use Rattle.rm_base.specs.Ranges.{passes_if_set}
-use Rattle.rm_rules.specs.Acceptance.{chain, cascade_of, length_through}
+use Rattle.rm_rules.specs.PoolStatements.{chain, cascade_of, length_through}
 use Rattle.rm_rules.proofs.Taken.{and_left, and_right, and_both, all_found, or_left_false, or_right_false}
 
 -- the pool to which another cascades is there

@@ -1,421 +1,115 @@
 -- What is accepted leads from sound definitions to sound ones, and counts one change.
-use Rattle.std.specs.Prelude.{◌≡◌, ℕ, zero, suc, ◌+◌, ◌-◌, ◌*◌, ◌≤◌, ◌<◌, Bool, true, false, cond, ◌&&◌, ◌||◌, not, ◌==◌, nat_lt, nat_le, List, [], ◌∷◌, length, Option, Some, None, Ok, is_ok, is_some, unwrap_or, option_map, max, refl}
-use Rattle.std.specs.List.{list_all}
-use Rattle.std.proofs.Common.{sym, ap, ◌∙◌, subst, arith}
-use Rattle.std.proofs.lemmas.Bool.{false≢true, leb-true}
-use Rattle.std.proofs.lemmas.Bool.Decides.{nat_tests}
-use Rattle.rm_base.specs.declared.limits.TheConstants.{MEMORY_LEAST, MEMORY_MOST, TOTAL_LEAST, POOLS_MOST, CHANGES_MOST, CHAIN_MOST}
+use Rattle.std.specs.Prelude.{◌≡◌, ◌+◌, ◌<◌, Bool, true, false, cond, ◌++◌, [], ◌∷◌, None, Ok, refl}
+use Rattle.std.proofs.Common.{subst, arith}
+use Rattle.std.proofs.lemmas.Bool.{false≢true}
+use Rattle.rm_base.specs.declared.limits.TheConstants.{CHANGES_MOST}
 use Rattle.rm_base.specs.declared.definitions.Definitions.{Definitions}
-use Rattle.rm_base.specs.declared.rows.PoolRow.{PoolRow}
 use Rattle.rm_base.specs.declared.rows.GrantRow.{GrantRow}
-use Rattle.rm_base.specs.declared.rows.GrantRow.TheVariants.{PoolToUser, PoolToRole, RoleToUser}
-use Rattle.rm_base.specs.declared.name.Name.{Name}
-use Rattle.rm_base.specs.declared.statement.PoolChange.{PoolChange}
+use Rattle.rm_base.specs.declared.rows.GrantRow.TheVariants.{RoleToUser}
 use Rattle.rm_base.specs.declared.statement.Statement.{Statement}
 use Rattle.rm_base.specs.declared.statement.Statement.TheVariants.{CreatePool, AlterPool, DropPool, CreateUser, AlterUser, DropUser, CreateRole, AlterRole, DropRole, GrantUsage, RevokeUsage, GrantRole, RevokeRole}
-use Rattle.rm_base.specs.declared.refusal.Refusal.{Refusal}
-use Rattle.rm_base.specs.Name.{same_name, general}
-use Rattle.rm_base.specs.Definitions.{default_pool_row}
-use Rattle.rm_base.proofs.Names.{same_name-refl, same_name-eq}
-use Rattle.rm_rules.specs.Definitions.{pool_called, pool_row, user_called, role_called, total, reserved, usable}
-use Rattle.rm_rules.specs.Sound.{IsSound, is_within_max, has_pool, chain_ends, is_grant_known, begins_with_general}
-use Rattle.rm_base.specs.Ranges.{passes_if_set, is_between, is_pool_change_in_range, is_pool_in_range, is_statement_in_range}
-use Rattle.rm_rules.specs.Refusals.{refused_if, first_refusal, unless_refused}
-use Rattle.rm_rules.specs.Acceptance.{is_judged, bytes_of, created_row, altered_row, with_row, with_pool, total_out_of_range, name_taken, pool_missing, general_reserves, max_below_memory, general_too_small, target_missing, chain, cascade_loop, length_through, longest_through, chain_too_long, pools_full, changes_full, outcome_refusal, create_refusal, alter_refusal, accepted}
-use Rattle.rm_rules.proofs.Taken.{and_left, and_right, and_both, all_found, found_passes, not_true}
-use Rattle.rm_rules.proofs.Known.{general-there}
-use Rattle.rm_rules.proofs.AcceptancePools.{all_with, called_with, there_with, distinct_with, length_with-there, length_with-most, first_with}
-use Rattle.rm_rules.proofs.AcceptanceChains.{target_there, longest, each_ends}
-use Rattle.rm_rules.proofs.AcceptanceRanges.{changed-in_range}
+use Rattle.rm_base.specs.Ranges.{is_statement_in_range}
+use Rattle.rm_rules.specs.Sound.{IsSound, has_grant}
+use Rattle.rm_rules.specs.GrantStatements.{usage_grant, with_grant}
+use Rattle.rm_rules.specs.Acceptance.{is_judged, refusal_of, left_by, counted, accepted}
+use Rattle.rm_rules.proofs.Refused.{unless-ok, IsLeft}
+use Rattle.rm_rules.proofs.PoolLaws.{left-create_pool, left-alter_pool}
+use Rattle.rm_rules.proofs.GrantLaws.{left-grant_usage, left-revoke_usage, left-grant_role, left-revoke_role}
+use Rattle.rm_rules.proofs.UserLaws.{left-create_user, left-alter_user, left-drop_user, left-create_role, left-alter_role, left-drop_role}
 
--- what is not refused
-pub not-refused : (b : Bool) (r : Refusal) → refused_if b r ≡ None → b ≡ false
-not-refused true r h = absurd (cc)
-not-refused false r h = refl
+-- what is not refused leaves sound definitions
+pub left-right : (d : Definitions) (statement : Statement) → IsSound d → is_statement_in_range statement ≡ true → is_judged statement ≡ true
+    → refusal_of d statement ≡ None → IsLeft d (left_by d statement)
+left-right d (CreatePool name c) sound formed is h = left-create_pool d name c sound formed h
+left-right d (AlterPool name c) sound formed is h = left-alter_pool d name c sound formed h
+left-right d (DropPool name) sound formed is h = absurd (false≢true is)
+left-right d (CreateUser name c) sound formed is h = left-create_user d name c sound formed h
+left-right d (AlterUser name c) sound formed is h = left-alter_user d name c sound formed h
+left-right d (DropUser name) sound formed is h = left-drop_user d name sound h
+left-right d (CreateRole name) sound formed is h = left-create_role d name sound h
+left-right d (AlterRole name pool) sound formed is h = left-alter_role d name pool sound h
+left-right d (DropRole name) sound formed is h = left-drop_role d name sound h
+left-right d (GrantUsage pool grantee) sound formed is h = left-grant_usage d pool grantee sound h
+left-right d (RevokeUsage pool grantee) sound formed is h = left-revoke_usage d pool grantee sound h
+left-right d (GrantRole role user) sound formed is h = left-grant_role d role user sound h
+left-right d (RevokeRole role user) sound formed is h = left-revoke_role d role user sound h
 
-pub first-none : (o : Option Refusal) (more : List (Option Refusal)) → first_refusal (o ∷ more) ≡ None → (o ≡ None) × (first_refusal more ≡ None)
-first-none None more h = (refl, h)
-first-none (Some r) more h = absurd (cc)
+-- a change more is sound where there is room for it
+pub sound-counted : (d : Definitions) → IsSound d → d.changes < CHANGES_MOST → IsSound (counted d)
+sound-counted d sound room = record {
+  memory = sound.memory;
+  cores = sound.cores;
+  changes = omega (arith, room);
+  pool_count = sound.pool_count;
+  user_count = sound.user_count;
+  role_count = sound.role_count;
+  grant_count = sound.grant_count;
+  general_first = sound.general_first;
+  dbadmin_there = sound.dbadmin_there;
+  pools_distinct = sound.pools_distinct;
+  users_distinct = sound.users_distinct;
+  pools_in_range = sound.pools_in_range;
+  users_in_range = sound.users_in_range;
+  pools_within_max = sound.pools_within_max;
+  total_least = sound.total_least;
+  total_most = sound.total_most;
+  reserved_most = sound.reserved_most;
+  quarter_left = sound.quarter_left;
+  chains_end = sound.chains_end;
+  user_pools_there = sound.user_pools_there;
+  role_pools_there = sound.role_pools_there;
+  grants_known = sound.grants_known;
+  grants_distinct = sound.grants_distinct;
+}
 
-pub not_below : (a b : ℕ) → nat_lt a b ≡ false → b ≤ a
-not_below a b h = grind (arith, nat_tests)
+-- a statement leaves the machine, and the count
+pub record KeepsCount (d new : Definitions) : Type 0 where
+  pub changes : new.changes ≡ d.changes
+  pub memory : new.memory ≡ d.memory
+  pub cores : new.cores ≡ d.cores
 
-pub not_above : (a b : ℕ) → nat_le a b ≡ false → b < a
-not_above a b h = grind (arith, nat_tests)
+grant-turn : (d : Definitions) (g : GrantRow) (b : Bool) → (let more : Definitions = record d { grants = d.grants ++ g ∷ [] } in KeepsCount d (cond b d more))
+grant-turn d g true = record { changes = refl; memory = refl; cores = refl }
+grant-turn d g false = record { changes = refl; memory = refl; cores = refl }
 
-le-true : (a b : ℕ) → a ≤ b → nat_le a b ≡ true
-le-true a b h = grind (arith, nat_tests)
+grant-kept : (d : Definitions) (g : GrantRow) → KeepsCount d (with_grant d g)
+grant-kept d g = grant-turn d g (has_grant d.grants g)
 
-or-left : (a b : Bool) → a ≡ true → (a || b) ≡ true
-or-left a b h = ap (λ c. c || b) h
+pub left-kept : (d : Definitions) (statement : Statement) → KeepsCount d (left_by d statement)
+left-kept d (CreatePool name c) = record { changes = refl; memory = refl; cores = refl }
+left-kept d (AlterPool name c) = record { changes = refl; memory = refl; cores = refl }
+left-kept d (DropPool name) = record { changes = refl; memory = refl; cores = refl }
+left-kept d (CreateUser name c) = record { changes = refl; memory = refl; cores = refl }
+left-kept d (AlterUser name c) = record { changes = refl; memory = refl; cores = refl }
+left-kept d (DropUser name) = record { changes = refl; memory = refl; cores = refl }
+left-kept d (CreateRole name) = record { changes = refl; memory = refl; cores = refl }
+left-kept d (AlterRole name pool) = record { changes = refl; memory = refl; cores = refl }
+left-kept d (DropRole name) = record { changes = refl; memory = refl; cores = refl }
+left-kept d (GrantUsage pool grantee) = grant-kept d (usage_grant d pool grantee)
+left-kept d (RevokeUsage pool grantee) = record { changes = refl; memory = refl; cores = refl }
+left-kept d (GrantRole role user) = grant-kept d (RoleToUser role user)
+left-kept d (RevokeRole role user) = record { changes = refl; memory = refl; cores = refl }
 
-or-right : (a b : Bool) → b ≡ true → (a || b) ≡ true
-or-right true b h = refl
-or-right false b h = h
-
--- what passes one test passes a wider one
-pub all_wider : {A : Type 0} (p q : A → Bool) (xs : List A) → ((x : A) → p x ≡ true → q x ≡ true) → list_all p xs ≡ true → list_all q xs ≡ true
-all_wider p q [] wider all = refl
-all_wider p q (x ∷ xs) wider all =
-    and_both (q x) _ (wider x (and_left (p x) (list_all p xs) all)) (all_wider p q xs wider (and_right (p x) (list_all p xs) all))
-
-pub set_wider : {A : Type 0} (p q : A → Bool) (o : Option A) → ((x : A) → p x ≡ true → q x ≡ true) → passes_if_set p o ≡ true → passes_if_set q o ≡ true
-set_wider p q None wider passes = refl
-set_wider p q (Some x) wider passes = wider x passes
-
--- what is there stays there
-pub has_pool-with : (d : Definitions) (row : PoolRow) (n : Name) → has_pool d n ≡ true → has_pool (with_pool d row) n ≡ true
-has_pool-with d row n there = there_with row d.pools n there
-
-grant-known : (d : Definitions) (row : PoolRow) (g : GrantRow) → is_grant_known d g ≡ true → is_grant_known (with_pool d row) g ≡ true
-grant-known d row (PoolToUser p u) known =
-    and_both (has_pool (with_pool d row) p) _ (has_pool-with d row p (and_left (has_pool d p) (is_some (user_called d.users u)) known)) (and_right (has_pool d p) (is_some (user_called d.users u)) known)
-grant-known d row (PoolToRole p r) known =
-    and_both (has_pool (with_pool d row) p) _ (has_pool-with d row p (and_left (has_pool d p) (is_some (role_called d.roles r)) known)) (and_right (has_pool d p) (is_some (role_called d.roles r)) known)
-grant-known d row (RoleToUser r u) known = known
-
--- the total after the statement
-total-turn : (d : Definitions) (row : PoolRow) (found : Option PoolRow) (b : Bool)
-    → unwrap_or ((unwrap_or (cond b (Some row) found) (default_pool_row general)).max) (usable d.memory)
-    ≡ cond b (unwrap_or row.max (usable d.memory)) (unwrap_or ((unwrap_or found (default_pool_row general)).max) (usable d.memory))
-total-turn d row found true = refl
-total-turn d row found false = refl
-
-pub total-with : (d : Definitions) (row : PoolRow) → total (with_pool d row) ≡ cond (same_name row.name general) (unwrap_or row.max (usable d.memory)) (total d)
-total-with d row =
-    ap (λ o. unwrap_or ((unwrap_or o (default_pool_row general)).max) (usable d.memory)) (called_with row d.pools general)
-    ∙ total-turn d row (pool_called d.pools general) (same_name row.name general)
-
--- what numbers 11, 13 and 15 rule out
-within-max : (most : Option ℕ) (memory : ℕ) → max_below_memory most memory ≡ None → passes_if_set (λ m. nat_le memory m) most ≡ true
-within-max None memory h = refl
-within-max (Some m) memory h = le-true memory m (not_below m memory (not-refused (nat_lt m memory) _ h))
-
-target-there : (new : Definitions) (next : Option Name) → target_missing new next ≡ None → target_there new.pools next ≡ true
-target-there new None h = refl
-target-there new (Some t) h = not_true (has_pool new t) (not-refused (not (has_pool new t)) _ h)
-
-longest-is : (pools : List PoolRow) (name : Name) (rs : List PoolRow) → longest pools name POOLS_MOST rs ≡ longest_through pools name rs
-longest-is pools name [] = refl
-longest-is pools name (r ∷ rs) = ap (λ n. max (length_through name (r.name ∷ chain pools POOLS_MOST r.cascade)) n) (longest-is pools name rs)
-
--- a chain that ends begins with a pool that is there
-found-there : (pools : List PoolRow) (n : ℕ) (o : Option PoolRow) → elim o [ None ↦ false | Some r ↦ chain_ends pools n r.cascade ] ≡ true → is_some o ≡ true
-found-there pools n None ends = ends
-found-there pools n (Some r) ends = refl
-
-begins-there : (pools : List PoolRow) (n : ℕ) (next : Option Name) → chain_ends pools n next ≡ true → target_there pools next ≡ true
-begins-there pools n None ends = refl
-begins-there pools zero (Some t) ends = absurd (false≢true ends)
-begins-there pools (suc n) (Some t) ends = found-there pools n (pool_called pools t) ends
-
--- a row that the rules let in: its values, GENERAL's part, and the definitions that it leaves
-pub record IsLetIn (d : Definitions) (row : PoolRow) : Type 0 where
-  pub in_range : is_pool_in_range row ≡ true
-  pub memory : same_name row.name general ≡ true → (row.memory == 0) ≡ true
-  pub least : TOTAL_LEAST ≤ total (with_pool d row)
-  pub most : total (with_pool d row) ≤ d.memory
-  pub outcome : outcome_refusal (with_pool d row) row ≡ None
-  pub count : length (with_row row d.pools) ≤ POOLS_MOST
-  pub changes : d.changes < CHANGES_MOST
-
--- the parts of the outcome
-pub record IsFree (new : Definitions) (row : PoolRow) : Type 0 where
-  pub within : is_within_max row ≡ true
-  pub quarter : total new ≤ 4 * (total new - reserved new)
-  pub target : target_there new.pools row.cascade ≡ true
-  pub short : longest_through new.pools row.name new.pools ≤ CHAIN_MOST
-
-free-outcome : (new : Definitions) (row : PoolRow) → outcome_refusal new row ≡ None → IsFree new row
-free-outcome new row h =
-    let a = first-none (max_below_memory row.max row.memory) _ h in
-    let b = first-none (general_too_small new) _ a.1 in
-    let c = first-none (target_missing new row.cascade) _ b.1 in
-    let e = first-none (cascade_loop new.pools row) _ c.1 in
-    let f = first-none (chain_too_long new.pools row.name) _ e.1 in
-    record {
-      within = within-max row.max row.memory a.0;
-      quarter = not_below (4 * (total new - reserved new)) (total new) (not-refused (nat_lt (4 * (total new - reserved new)) (total new)) _ b.0);
-      target = target-there new row.cascade c.0;
-      short = not_below CHAIN_MOST (longest_through new.pools row.name new.pools) (not-refused (nat_lt CHAIN_MOST (longest_through new.pools row.name new.pools)) _ f.0);
-    }
-
--- every chain ends
-chains-with : (d : Definitions) (row : PoolRow) → IsSound d → IsFree (with_pool d row) row
-    → list_all (λ r. chain_ends (with_row row d.pools) (CHAIN_MOST - 1) r.cascade) (with_row row d.pools) ≡ true
-chains-with d row sound free =
-    let after : List PoolRow = with_row row d.pools in
-    let same : (m : Name) → same_name row.name m ≡ false → pool_called after m ≡ pool_called d.pools m =
-    λ m apart. called_with row d.pools m ∙ ap (λ b. cond b (Some row) (pool_called d.pools m)) apart in
-    let closed : list_all (λ r. target_there after r.cascade) after ≡ true =
-    all_with (λ r. target_there after r.cascade) row d.pools
-    (all_wider (λ r. chain_ends d.pools (CHAIN_MOST - 1) r.cascade) (λ r. target_there after r.cascade) d.pools
-    (λ r ends. set_wider (λ n. is_some (pool_called d.pools n)) (λ n. is_some (pool_called after n)) r.cascade (λ n. there_with row d.pools n) (begins-there d.pools (CHAIN_MOST - 1) r.cascade ends)) sound.chains_end)
-    free.target in
-    let before : list_all (λ r. same_name row.name r.name || chain_ends d.pools (CHAIN_MOST - 1) r.cascade) after ≡ true =
-    all_with (λ r. same_name row.name r.name || chain_ends d.pools (CHAIN_MOST - 1) r.cascade) row d.pools
-    (all_wider (λ r. chain_ends d.pools (CHAIN_MOST - 1) r.cascade) (λ r. same_name row.name r.name || chain_ends d.pools (CHAIN_MOST - 1) r.cascade) d.pools
-    (λ r ends. or-right (same_name row.name r.name) _ ends) sound.chains_end)
-    (or-left (same_name row.name row.name) _ (same_name-refl row.name)) in
-    each_ends d.pools after row.name (CHAIN_MOST - 1) POOLS_MOST (omega arith) same closed after closed before
-    (subst (λ n. n ≤ CHAIN_MOST) (sym (longest-is after row.name after)) free.short)
-
--- a row that is let in leaves sound definitions
-pub sound-with : (d : Definitions) (row : PoolRow) → IsSound d → IsLetIn d row → IsSound (with_pool d row)
-sound-with d row sound let_in =
-    let free = free-outcome (with_pool d row) row let_in.outcome in
-    let quarter = free.quarter in
-    let least = let_in.least in
-    record {
-      memory = sound.memory;
-      cores = sound.cores;
-      changes = omega (arith, let_in.changes);
-      pool_count = let_in.count;
-      user_count = sound.user_count;
-      role_count = sound.role_count;
-      grant_count = sound.grant_count;
-      general_first = first_with row d.pools sound.general_first let_in.memory;
-      dbadmin_there = sound.dbadmin_there;
-      pools_distinct = distinct_with row d.pools sound.pools_distinct;
-      users_distinct = sound.users_distinct;
-      pools_in_range = all_with is_pool_in_range row d.pools sound.pools_in_range let_in.in_range;
-      users_in_range = sound.users_in_range;
-      pools_within_max = all_with is_within_max row d.pools sound.pools_within_max free.within;
-      total_least = least;
-      total_most = let_in.most;
-      reserved_most = omega arith;
-      quarter_left = quarter;
-      chains_end = chains-with d row sound free;
-      user_pools_there = all_wider (λ u. passes_if_set (has_pool d) u.pool) (λ u. passes_if_set (has_pool (with_pool d row)) u.pool) d.users
-          (λ u. set_wider (has_pool d) (has_pool (with_pool d row)) u.pool (has_pool-with d row)) sound.user_pools_there;
-      role_pools_there = all_wider (λ r. passes_if_set (has_pool d) r.pool) (λ r. passes_if_set (has_pool (with_pool d row)) r.pool) d.roles
-          (λ r. set_wider (has_pool d) (has_pool (with_pool d row)) r.pool (has_pool-with d row)) sound.role_pools_there;
-      grants_known = all_wider (is_grant_known d) (is_grant_known (with_pool d row)) d.grants (grant-known d row) sound.grants_known;
-      grants_distinct = sound.grants_distinct;
-    }
-
--- the row of a pool, and of one that is not there
-name-turn : (pools : List PoolRow) (name : Name) (o : Option PoolRow) → pool_called pools name ≡ o → (unwrap_or o (default_pool_row name)).name ≡ name
-name-turn pools name None e = refl
-name-turn pools name (Some r) e = same_name-eq r.name name (found_passes (λ x. same_name x.name name) r pools e)
-
-pub pool_row-name : (d : Definitions) (name : Name) → (pool_row d name).name ≡ name
-pool_row-name d name = name-turn d.pools name (pool_called d.pools name) refl
-
-range-turn : (pools : List PoolRow) (name : Name) (o : Option PoolRow) → pool_called pools name ≡ o → list_all is_pool_in_range pools ≡ true
-    → is_pool_in_range (unwrap_or o (default_pool_row name)) ≡ true
-range-turn pools name None e all = refl
-range-turn pools name (Some r) e all = all_found is_pool_in_range (λ x. same_name x.name name) pools r all e
-
-pub pool_row_in_range : (d : Definitions) (name : Name) → IsSound d → is_pool_in_range (pool_row d name) ≡ true
-pool_row_in_range d name sound = range-turn d.pools name (pool_called d.pools name) refl sound.pools_in_range
-
-general-turn : (pools : List PoolRow) → begins_with_general pools ≡ true → ((unwrap_or (pool_called pools general) (default_pool_row general)).memory == 0) ≡ true
-general-turn [] begins = absurd (false≢true begins)
-general-turn (r ∷ rs) begins =
-    ap (λ b. (unwrap_or (cond b (Some r) (pool_called rs general)) (default_pool_row general)).memory == 0) (and_left (same_name r.name general) (r.memory == 0) begins)
-    ∙ and_right (same_name r.name general) (r.memory == 0) begins
-
--- a pool that is not there is not GENERAL
-apart-turn : (d : Definitions) (name : Name) (b : Bool) → same_name name general ≡ b → IsSound d → has_pool d name ≡ false → b ≡ false
-apart-turn d name true e sound missing =
-    absurd (false≢true (sym missing ∙ subst (λ n. has_pool d n ≡ true) (sym (same_name-eq name general e)) (general-there d sound)))
-apart-turn d name false e sound missing = refl
-
--- the rows that well-formed statements leave are in range
-pub memory_fits : (d : Definitions) → IsSound d → d.memory ≤ MEMORY_MOST
-memory_fits d sound = leb-true d.memory MEMORY_MOST (and_right (nat_le MEMORY_LEAST d.memory) _ sound.memory)
-
-pub created-in_range : (d : Definitions) (name : Name) (c : PoolChange) → IsSound d → is_pool_change_in_range c ≡ true → is_pool_in_range (created_row d name c) ≡ true
-created-in_range d name c sound named = changed-in_range d (default_pool_row name) c (memory_fits d sound) sound.total_most named refl
-
-pub altered-in_range : (d : Definitions) (name : Name) (c : PoolChange) → IsSound d → is_pool_change_in_range c ≡ true → is_pool_in_range (altered_row d name c) ≡ true
-altered-in_range d name c sound named = changed-in_range d (pool_row d name) c (memory_fits d sound) sound.total_most named (pool_row_in_range d name sound)
-
--- what a created pool's row is
-pub let_in-created : (d : Definitions) (name : Name) (c : PoolChange) → IsSound d → is_pool_change_in_range c ≡ true
-    → create_refusal d name (created_row d name c) ≡ None → IsLetIn d (created_row d name c)
-let_in-created d name c sound named h =
-    let row : PoolRow = created_row d name c in
-    let taken = first-none (name_taken d name) _ h in
-    let outcome = first-none (outcome_refusal (with_pool d row) row) _ taken.1 in
-    let full = first-none (pools_full d) _ outcome.1 in
-    let changes = first-none (changes_full d) _ full.1 in
-    let apart : same_name name general ≡ false = apart-turn d name (same_name name general) refl sound (not-refused (has_pool d name) _ taken.0) in
-    let same : total (with_pool d row) ≡ total d = total-with d row ∙ ap (λ b. cond b (unwrap_or row.max (usable d.memory)) (total d)) apart in
-    let room : length d.pools < POOLS_MOST = not_above POOLS_MOST (length d.pools) (not-refused (nat_le POOLS_MOST (length d.pools)) _ full.0) in
-    let least = sound.total_least in
-    let most = sound.total_most in
-    record {
-      in_range = created-in_range d name c sound named;
-      memory = λ is. absurd (false≢true (sym apart ∙ is));
-      least = subst (λ t. TOTAL_LEAST ≤ t) (sym same) least;
-      most = subst (λ t. t ≤ d.memory) (sym same) most;
-      outcome = outcome.0;
-      count = omega (arith, length_with-most row d.pools);
-      changes = not_above CHANGES_MOST d.changes (not-refused (nat_le CHANGES_MOST d.changes) _ changes.0);
-    }
-
--- what an altered pool's row is
-and-false : (a b : Bool) → (a && b) ≡ false → a ≡ true → b ≡ false
-and-false true b h e = h
-and-false false b h e = absurd (false≢true e)
-
-kept-if_unnamed : {A : Type 0} (f : A → ℕ) (o : Option A) (had : ℕ) → is_some o ≡ false → unwrap_or (option_map f o) had ≡ had
-kept-if_unnamed f None had e = refl
-kept-if_unnamed f (Some x) had e = absurd (false≢true (sym e))
-
-general-keeps : (d : Definitions) (name : Name) (c : PoolChange) → IsSound d → general_reserves name c ≡ None → same_name name general ≡ true
-    → ((altered_row d name c).memory == 0) ≡ true
-general-keeps d name c sound h is =
-    let unnamed : is_some c.memory ≡ false = and-false (same_name name general) (is_some c.memory) (not-refused (same_name name general && is_some c.memory) _ h) is in
-    ap (λ n. n == 0) (kept-if_unnamed (bytes_of (total d)) c.memory (pool_row d name).memory unnamed)
-    ∙ subst (λ n. ((pool_row d n).memory == 0) ≡ true) (sym (same_name-eq name general is)) (general-turn d.pools sound.general_first)
-
--- GENERAL's MAXMEMORYSIZE is as before, or gives a total in range
-record IsInRange (d : Definitions) (t : ℕ) : Type 0 where
-  least : TOTAL_LEAST ≤ t
-  most : t ≤ d.memory
-
-in_range-turn : (d : Definitions) (t : ℕ) → not (is_between TOTAL_LEAST d.memory t) ≡ false → IsInRange d t
-in_range-turn d t h =
-    let inside = not_true (is_between TOTAL_LEAST d.memory t) h in
-    record {
-      least = leb-true TOTAL_LEAST t (and_left (nat_le TOTAL_LEAST t) (nat_le t d.memory) inside);
-      most = leb-true t d.memory (and_right (nat_le TOTAL_LEAST t) (nat_le t d.memory) inside);
-    }
-
-max-turn : {A : Type 0} (d : Definitions) (f : Option A → Option ℕ) (o : Option (Option A)) (had : Option ℕ) (new : ℕ)
-    → new ≡ unwrap_or (unwrap_or (option_map f o) had) (usable d.memory) → IsInRange d (unwrap_or had (usable d.memory))
-    → (is_some o && not (is_between TOTAL_LEAST d.memory new)) ≡ false → IsInRange d new
-max-turn d f None had new e before h = subst (λ t. IsInRange d t) (sym e) before
-max-turn d f (Some x) had new e before h = in_range-turn d new h
-
-total-turns : (d : Definitions) (name : Name) (c : PoolChange) (b : Bool) → same_name name general ≡ b → IsSound d
-    → total (with_pool d (altered_row d name c)) ≡ cond b (unwrap_or (altered_row d name c).max (usable d.memory)) (total d)
-    → (b && (is_some c.max && not (is_between TOTAL_LEAST d.memory (total (with_pool d (altered_row d name c)))))) ≡ false
-    → IsInRange d (total (with_pool d (altered_row d name c)))
-total-turns d name c true is sound e h =
-    let is_general : name ≡ general = same_name-eq name general is in
-    let before : IsInRange d (unwrap_or (pool_row d name).max (usable d.memory)) =
-    subst (λ n. IsInRange d (unwrap_or (pool_row d n).max (usable d.memory))) (sym is_general) (record { least = sound.total_least; most = sound.total_most }) in
-    max-turn d _ c.max (pool_row d name).max (total (with_pool d (altered_row d name c))) e before h
-total-turns d name c false is sound e h =
-    subst (λ t. IsInRange d t) (sym e) (record { least = sound.total_least; most = sound.total_most })
-
-total-altered : (d : Definitions) (name : Name) (c : PoolChange) → IsSound d → total_out_of_range (with_pool d (altered_row d name c)) name c ≡ None
-    → IsInRange d (total (with_pool d (altered_row d name c)))
-total-altered d name c sound h =
-    total-turns d name c (same_name name general) refl sound
-    (total-with d (altered_row d name c) ∙ ap (λ n. cond (same_name n general) (unwrap_or (altered_row d name c).max (usable d.memory)) (total d)) (pool_row-name d name))
-    (not-refused (same_name name general && (is_some c.max && not (is_between TOTAL_LEAST d.memory (total (with_pool d (altered_row d name c)))))) _ h)
-
-pub let_in-altered : (d : Definitions) (name : Name) (c : PoolChange) → IsSound d → is_pool_change_in_range c ≡ true
-    → alter_refusal d name c (altered_row d name c) ≡ None → IsLetIn d (altered_row d name c)
-let_in-altered d name c sound named h =
-    let row : PoolRow = altered_row d name c in
-    let range = first-none (total_out_of_range (with_pool d row) name c) _ h in
-    let missing = first-none (pool_missing d name) _ range.1 in
-    let built_in = first-none (general_reserves name c) _ missing.1 in
-    let outcome = first-none (outcome_refusal (with_pool d row) row) _ built_in.1 in
-    let changes = first-none (changes_full d) _ outcome.1 in
-    let there : has_pool d name ≡ true = not_true (has_pool d name) (not-refused (not (has_pool d name)) _ missing.0) in
-    let total_in = total-altered d name c sound range.0 in
-    let same : length (with_row row d.pools) ≡ length d.pools = length_with-there row d.pools (subst (λ n. has_pool d n ≡ true) (sym (pool_row-name d name)) there) in
-    let few = sound.pool_count in
-    record {
-      in_range = altered-in_range d name c sound named;
-      memory = λ is. general-keeps d name c sound built_in.0 (subst (λ n. same_name n general ≡ true) (pool_row-name d name) is);
-      least = total_in.least;
-      most = total_in.most;
-      outcome = outcome.0;
-      count = subst (λ n. n ≤ POOLS_MOST) (sym same) few;
-      changes = not_above CHANGES_MOST d.changes (not-refused (nat_le CHANGES_MOST d.changes) _ changes.0);
-    }
-
--- what an accepted statement leaves, of a pool's row
-pub unless-ok : {A : Type 0} (o : Option Refusal) (next new : A) → unless_refused o next ≡ Ok new → (o ≡ None) × (next ≡ new)
-unless-ok None next new h = (refl, cc)
-unless-ok (Some r) next new h = absurd (cc)
-
-let_in-sound : (d : Definitions) (row : PoolRow) (new : Definitions) → IsSound d → IsLetIn d row → with_pool d row ≡ new → IsSound new
-let_in-sound d row new sound let_in e = subst IsSound e (sound-with d row sound let_in)
+-- what is accepted
+pub accepted-left : (d : Definitions) (statement : Statement) (new : Definitions) → accepted d statement ≡ Ok new
+    → (refusal_of d statement ≡ None) × (counted (left_by d statement) ≡ new)
+accepted-left d statement new h = unless-ok (refusal_of d statement) (counted (left_by d statement)) new h
 
 pub accepted-sound : (d : Definitions) (statement : Statement) (new : Definitions) → IsSound d → is_statement_in_range statement ≡ true → is_judged statement ≡ true
     → accepted d statement ≡ Ok new → IsSound new
-accepted-sound d (CreatePool name c) new sound formed is h =
-    let parts = unless-ok (create_refusal d name (created_row d name c)) (with_pool d (created_row d name c)) new h in
-    let_in-sound d (created_row d name c) new sound (let_in-created d name c sound formed parts.0) parts.1
-accepted-sound d (AlterPool name c) new sound formed is h =
-    let parts = unless-ok (alter_refusal d name c (altered_row d name c)) (with_pool d (altered_row d name c)) new h in
-    let_in-sound d (altered_row d name c) new sound (let_in-altered d name c sound formed parts.0) parts.1
-accepted-sound d (DropPool name) new sound formed is h = absurd (false≢true is)
-accepted-sound d (CreateUser name change) new sound formed is h = absurd (false≢true is)
-accepted-sound d (AlterUser name change) new sound formed is h = absurd (false≢true is)
-accepted-sound d (DropUser name) new sound formed is h = absurd (false≢true is)
-accepted-sound d (CreateRole name) new sound formed is h = absurd (false≢true is)
-accepted-sound d (AlterRole name pool) new sound formed is h = absurd (false≢true is)
-accepted-sound d (DropRole name) new sound formed is h = absurd (false≢true is)
-accepted-sound d (GrantUsage pool name) new sound formed is h = absurd (false≢true is)
-accepted-sound d (RevokeUsage pool name) new sound formed is h = absurd (false≢true is)
-accepted-sound d (GrantRole role user) new sound formed is h = absurd (false≢true is)
-accepted-sound d (RevokeRole role user) new sound formed is h = absurd (false≢true is)
+accepted-sound d statement new sound formed is h =
+    let parts = accepted-left d statement new h in
+    let left = left-right d statement sound formed is parts.0 in
+    let kept = left-kept d statement in
+    subst IsSound parts.1 (sound-counted (left_by d statement) left.sound (omega (arith, left.changes, kept.changes)))
 
--- it is counted, and leaves all but the pools
+-- it is counted, and the machine stays as it is
 pub record IsCounted (d new : Definitions) : Type 0 where
   pub changes : new.changes ≡ d.changes + 1
   pub memory : new.memory ≡ d.memory
   pub cores : new.cores ≡ d.cores
 
-with-counted : (d : Definitions) (row : PoolRow) (new : Definitions) → with_pool d row ≡ new → IsCounted d new
-with-counted d row new e = subst (λ x. IsCounted d x) e (record { changes = refl; memory = refl; cores = refl })
-
 pub accepted-counted : (d : Definitions) (statement : Statement) (new : Definitions) → is_judged statement ≡ true → accepted d statement ≡ Ok new → IsCounted d new
-accepted-counted d (CreatePool name c) new is h =
-    with-counted d (created_row d name c) new (unless-ok (create_refusal d name (created_row d name c)) (with_pool d (created_row d name c)) new h).1
-accepted-counted d (AlterPool name c) new is h =
-    with-counted d (altered_row d name c) new (unless-ok (alter_refusal d name c (altered_row d name c)) (with_pool d (altered_row d name c)) new h).1
-accepted-counted d (DropPool name) new is h = absurd (false≢true is)
-accepted-counted d (CreateUser name change) new is h = absurd (false≢true is)
-accepted-counted d (AlterUser name change) new is h = absurd (false≢true is)
-accepted-counted d (DropUser name) new is h = absurd (false≢true is)
-accepted-counted d (CreateRole name) new is h = absurd (false≢true is)
-accepted-counted d (AlterRole name pool) new is h = absurd (false≢true is)
-accepted-counted d (DropRole name) new is h = absurd (false≢true is)
-accepted-counted d (GrantUsage pool name) new is h = absurd (false≢true is)
-accepted-counted d (RevokeUsage pool name) new is h = absurd (false≢true is)
-accepted-counted d (GrantRole role user) new is h = absurd (false≢true is)
-accepted-counted d (RevokeRole role user) new is h = absurd (false≢true is)
-
--- what is accepted of a pool statement is let in, and is the definitions with the row
-ok-none : (o : Option Refusal) (next : Definitions) → is_ok (unless_refused o next) ≡ true → o ≡ None
-ok-none None next h = refl
-ok-none (Some r) next h = absurd (false≢true h)
-
-ok-next : (o : Option Refusal) (next : Definitions) → is_ok (unless_refused o next) ≡ true → unless_refused o next ≡ Ok next
-ok-next None next h = refl
-ok-next (Some r) next h = absurd (false≢true h)
-
-pub created-let_in : (d : Definitions) (statement : Statement) (name : Name) (c : PoolChange) → statement ≡ CreatePool name c → IsSound d → is_statement_in_range statement ≡ true
-    → is_ok (accepted d statement) ≡ true → IsLetIn d (created_row d name c)
-created-let_in d statement name c e sound =
-    subst (λ s. is_statement_in_range s ≡ true → is_ok (accepted d s) ≡ true → IsLetIn d (created_row d name c)) (sym e)
-    (λ formed ok. let_in-created d name c sound formed (ok-none (create_refusal d name (created_row d name c)) (with_pool d (created_row d name c)) ok))
-
-pub altered-let_in : (d : Definitions) (statement : Statement) (name : Name) (c : PoolChange) → statement ≡ AlterPool name c → IsSound d → is_statement_in_range statement ≡ true
-    → is_ok (accepted d statement) ≡ true → IsLetIn d (altered_row d name c)
-altered-let_in d statement name c e sound =
-    subst (λ s. is_statement_in_range s ≡ true → is_ok (accepted d s) ≡ true → IsLetIn d (altered_row d name c)) (sym e)
-    (λ formed ok. let_in-altered d name c sound formed (ok-none (alter_refusal d name c (altered_row d name c)) (with_pool d (altered_row d name c)) ok))
-
-pub created-next : (d : Definitions) (statement : Statement) (name : Name) (c : PoolChange) → statement ≡ CreatePool name c
-    → is_ok (accepted d statement) ≡ true → accepted d statement ≡ Ok (with_pool d (created_row d name c))
-created-next d statement name c e =
-    subst (λ s. is_ok (accepted d s) ≡ true → accepted d s ≡ Ok (with_pool d (created_row d name c))) (sym e)
-    (λ ok. ok-next (create_refusal d name (created_row d name c)) (with_pool d (created_row d name c)) ok)
-
-pub altered-next : (d : Definitions) (statement : Statement) (name : Name) (c : PoolChange) → statement ≡ AlterPool name c
-    → is_ok (accepted d statement) ≡ true → accepted d statement ≡ Ok (with_pool d (altered_row d name c))
-altered-next d statement name c e =
-    subst (λ s. is_ok (accepted d s) ≡ true → accepted d s ≡ Ok (with_pool d (altered_row d name c))) (sym e)
-    (λ ok. ok-next (alter_refusal d name c (altered_row d name c)) (with_pool d (altered_row d name c)) ok)
+accepted-counted d statement new is h =
+    let kept = left-kept d statement in
+    subst (IsCounted d) (accepted-left d statement new h).1 (record { changes = omega (arith, kept.changes); memory = kept.memory; cores = kept.cores })

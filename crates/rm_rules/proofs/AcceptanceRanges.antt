@@ -7,14 +7,17 @@ use Rattle.std.proofs.lemmas.Bool.Decides.{nat_tests}
 use Rattle.rm_base.specs.declared.limits.TheConstants.{MEMORY_MOST, CONCURRENCY_MOST, THRESHOLD_SECONDS_MOST, SPAN_MOST}
 use Rattle.rm_base.specs.declared.definitions.Definitions.{Definitions}
 use Rattle.rm_base.specs.declared.rows.PoolRow.{PoolRow}
+use Rattle.rm_base.specs.declared.rows.UserRow.{UserRow}
 use Rattle.rm_base.specs.declared.name.Name.{Name}
 use Rattle.rm_base.specs.declared.statement.Size.{Size}
 use Rattle.rm_base.specs.declared.statement.Size.TheVariants.{Bytes, Percent}
 use Rattle.rm_base.specs.declared.statement.PoolChange.{PoolChange}
+use Rattle.rm_base.specs.declared.statement.UserChange.{UserChange}
 use Rattle.rm_base.specs.Name.{same_name, general}
-use Rattle.rm_rules.specs.Definitions.{total}
-use Rattle.rm_base.specs.Ranges.{passes_if_set, is_between, is_priority, is_size_in_range, is_pool_change_in_range, is_pool_in_range}
-use Rattle.rm_rules.specs.Acceptance.{bytes_of, max_whole, changed_row}
+use Rattle.rm_rules.specs.Definitions.{total, bytes_of}
+use Rattle.rm_base.specs.Ranges.{passes_if_set, is_between, is_priority, is_size_in_range, is_pool_change_in_range, is_pool_in_range, is_user_change_in_range, is_user_in_range}
+use Rattle.rm_rules.specs.PoolStatements.{max_whole, changed_pool}
+use Rattle.rm_rules.specs.UserStatements.{changed_user}
 use Rattle.rm_rules.proofs.Taken.{and_left, and_right, and_both}
 
 le-true : (a b : ℕ) → a ≤ b → nat_le a b ≡ true
@@ -60,7 +63,7 @@ both a b c d e f named had here behind =
 
 -- the row that a statement leaves is in range
 pub changed-in_range : (d : Definitions) (r : PoolRow) (c : PoolChange) → d.memory ≤ MEMORY_MOST → total d ≤ d.memory
-    → is_pool_change_in_range c ≡ true → is_pool_in_range r ≡ true → is_pool_in_range (changed_row d r c) ≡ true
+    → is_pool_change_in_range c ≡ true → is_pool_in_range r ≡ true → is_pool_in_range (changed_pool d r c) ≡ true
 changed-in_range d r c memory within named had =
     let fits : total d ≤ MEMORY_MOST = omega arith in
     both _ _ _ _ _ _ named had (size-fits (total d) c.memory r.memory fits)
@@ -73,3 +76,9 @@ changed-in_range d r c memory within named had =
     (λ n7 h7. both _ _ _ _ _ _ n7 h7 (limit-passes (is_between 1 CONCURRENCY_MOST) c.planned r.planned)
     (λ n8 h8. both _ _ _ _ _ _ n8 h8 (limit-passes (is_between 1 CONCURRENCY_MOST) c.concurrency r.concurrency)
     (λ n9 h9. limit-passes (is_between 1 SPAN_MOST) c.cap_ms r.cap_ms n9 h9)))))))))
+
+pub user-in_range : (d : Definitions) (u : UserRow) (c : UserChange) → d.memory ≤ MEMORY_MOST → total d ≤ d.memory
+    → is_user_change_in_range c ≡ true → is_user_in_range u ≡ true → is_user_in_range (changed_user d u c) ≡ true
+user-in_range d u c memory within named had =
+    let fits : total d ≤ MEMORY_MOST = omega arith in
+    both _ _ _ _ _ _ named had (limit-fits (total d) c.memory_cap u.memory_cap fits) (limit-passes (is_between 1 SPAN_MOST) c.cap_ms u.cap_ms)

@@ -21,7 +21,7 @@ use Rattle.rm_rules.specs.Sound.{IsSound, has_pool}
 use Rattle.rm_rules.specs.Healthy.{AreSized, AreThere, AreHeld}
 use Rattle.rm_rules.proofs.Taken.{all_push}
 use Rattle.rm_rules.proofs.Known.{chosen-with}
-use Rattle.rm_rules.proofs.AcceptanceLaws.{not-refused}
+use Rattle.rm_rules.proofs.Refused.{not-refused}
 use Rattle.rm_rules.proofs.Covering.{sized-shuffled, covered-shuffled}
 use Rattle.rm_rules.proofs.Rests.{shuffled-rests}
 use Rattle.rm_rules.proofs.Idle.{fits-idle, first_among-here}

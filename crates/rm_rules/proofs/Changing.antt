@@ -19,14 +19,15 @@ use Rattle.rm_rules.specs.declared.state.Phase.{Phase}
 use Rattle.rm_rules.specs.declared.state.Phase.TheVariants as phase
 use Rattle.rm_rules.specs.declared.state.Session.{Session}
 use Rattle.rm_rules.specs.Definitions.{pool_row, user_called, usage}
-use Rattle.rm_rules.specs.Acceptance.{accepted, pool_missing}
+use Rattle.rm_rules.specs.Refusals.{pool_missing, user_missing}
+use Rattle.rm_rules.specs.Acceptance.{accepted}
 use Rattle.rm_rules.specs.Ask.{is_too_large}
 use Rattle.rm_rules.specs.State.{State, session_called, session_of, if_opened_by, session_pool, with_choice, is_idle, is_active, is_running, live_queries}
-use Rattle.rm_rules.specs.Change.{Change, quiet, changing, with_session, user_missing, size_refusal, session_busy, not_live, not_running, usage_missing, sessions_full, journal_full, is_journal_full, defined, defining_to, opened, opening_refusal, has_chosen, chosen, choosing_refusal, choosing, submitted, submitting_refusal, submitting, polled, polling, collected, finished, finishing, session_running, closed, closing, change, tried}
+use Rattle.rm_rules.specs.Change.{Change, quiet, changing, with_session, size_refusal, session_busy, not_live, not_running, usage_missing, sessions_full, journal_full, is_journal_full, defined, defining_to, opened, opening_refusal, has_chosen, chosen, choosing_refusal, choosing, submitted, submitting_refusal, submitting, polled, polling, collected, finished, finishing, session_running, closed, closing, change, tried}
 use Rattle.rm_rules.specs.Answers.{is_defining}
 use Rattle.rm_rules.specs.Sound.{has_pool}
 use Rattle.rm_rules.proofs.Taken.{found_passes, not_true}
-use Rattle.rm_rules.proofs.AcceptanceLaws.{not-refused, first-none, not_above, unless-ok}
+use Rattle.rm_rules.proofs.Refused.{not-refused, first-none, not_above, unless-ok}
 
 -- the session that an event speaks of
 of_seat-turn : (seat : ℕ) (x : Session) (o : Option Session) → option_and_then (if_opened_by seat) o ≡ Some x → (o ≡ Some x) × (x.seat ≡ seat)

@@ -18,7 +18,7 @@ use Rattle.rm_rules.specs.Holdings.{Holdings, holding, holdings, holdings_of, re
 use Rattle.rm_rules.specs.Accounting.{held_in, free, need, kept_back}
 use Rattle.rm_rules.specs.Admission.{admitted, started, first_entitled}
 use Rattle.rm_rules.specs.Shuffle.{shuffled, shuffled_state}
-use Rattle.rm_rules.specs.Acceptance.{accepted, is_judged, with_pool}
+use Rattle.rm_rules.specs.Acceptance.{accepted, is_judged}
 use Rattle.rm_rules.specs.Change.{defined, runner_of}
 use Rattle.rm_rules.specs.Sound.{IsSound}
 use Rattle.rm_rules.specs.Healthy.{AreSized, AreThere, AreHeld, AreCovered}
@@ -29,7 +29,8 @@ use Rattle.rm_rules.proofs.Queue.{first_entitled_fits, enough}
 use Rattle.rm_rules.proofs.There.{waiting-there}
 use Rattle.rm_rules.proofs.Conserved.{granted-within}
 use Rattle.rm_rules.proofs.Shuffling.{covered-shuffle, force-shuffle, shuffle-names, shuffled-bytes}
-use Rattle.rm_rules.proofs.Defining.{accepted-row, places, there-with}
+use Rattle.rm_rules.proofs.AcceptanceLaws.{accepted-counted}
+use Rattle.rm_rules.proofs.Defining.{accepted-names, places, there-after}
 
 -- one grant more, for which enough is free, leaves the bytes covered
 covered-push : (d : Definitions) (h : Holdings) (g : Holding) → AreNamed (with_grant h g) → AreCovered d h → need h g.pool g.bytes ≤ free h
@@ -119,22 +120,18 @@ pub record IsDefined (s : State) (d : Definitions) : Type 0 where
   pub there : AreThere d s.sessions s.waiting s.running
   pub held : AreHeld d (holdings_of (defined s d).state)
 
-defined-row : (s : State) (row : PoolRow) → IsSound s.definitions → AreSized s.definitions s.actual s.counters → AreThere s.definitions s.sessions s.waiting s.running
-    → AreHeld s.definitions (holdings_of s) → IsDefined s (with_pool s.definitions row)
-defined-row s row sound sized there held =
-    let p = places s row sound sized there in
-    record {
-      sized = p.sized;
-      there = there-with s.definitions row s.sessions s.waiting s.running there;
-      held = record { within = omega (arith, held.within, p.kept, p.debts); granted = held.granted; in_force_most = held.in_force_most };
-    }
-
 pub held-defined : (s : State) (statement : Statement) (d : Definitions) → is_judged statement ≡ true → accepted s.definitions statement ≡ Ok d
     → IsSound s.definitions → IsSound d → AreSized s.definitions s.actual s.counters → AreThere s.definitions s.sessions s.waiting s.running
     → AreHeld s.definitions (holdings_of s) → IsDefined s d
 held-defined s statement d judged is sound new sized there held =
-    let row = accepted-row s.definitions statement d judged is in
-    subst (IsDefined s) row.1 (defined-row s row.0 sound sized there held)
+    let after = accepted-names s.definitions statement d is in
+    let p = places s d after sound sized there in
+    let same : d.memory ≡ s.definitions.memory = (accepted-counted s.definitions statement d judged is).memory in
+    record {
+      sized = p.sized;
+      there = there-after s.definitions d s.sessions s.waiting s.running after there;
+      held = record { within = omega (arith, held.within, p.kept, p.debts); granted = held.granted; in_force_most = omega (arith, held.in_force_most, same) };
+    }
 
 -- at the start each pool has its size, and the bytes are covered
 pub sized-start : (d : Definitions) (room : ℕ) → (let s = start d room in AreSized d s.actual s.counters)

@@ -1,14 +1,16 @@
 -- What an accepted statement leaves of the bytes, before the sizes are shuffled.
-use Rattle.std.proofs.Common.{◌≡◌, ℕ, ◌+◌, ◌-◌, Bool, true, false, cond, ltb, List, [], ◌∷◌, ◌++◌, length, Some, Ok, refl, sym, ap, ◌∙◌, arith, sum_by}
-use Rattle.std.specs.List.{list_all}
-use Rattle.std.specs.Option.{is_some}
+use Rattle.std.proofs.Common.{◌≡◌, ℕ, ◌+◌, ◌-◌, Bool, true, false, cond, ltb, List, [], ◌∷◌, ◌++◌, length, Ok, ◌||◌, refl, sym, ap, ◌∙◌, subst, arith, sum_by}
+use Rattle.std.specs.List.{list_all, list_any}
 use Rattle.std.proofs.lemmas.Bool.{false≢true}
 use Rattle.std.proofs.lemmas.Bool.Decides.{nat_tests}
-use Rattle.std.proofs.lemmas.List.{length_push}
+use Rattle.std.proofs.lemmas.List.{length_push, length-map, map_push}
+use Rattle.std.proofs.lemmas.List.Folds.{list_any-append}
 use Rattle.std.proofs.lemmas.List.Sums.{sum_by-cons, sum_by_push}
 use Rattle.rm_base.specs.declared.definitions.Definitions.{Definitions}
 use Rattle.rm_base.specs.declared.name.Name.{Name}
 use Rattle.rm_base.specs.declared.rows.PoolRow.{PoolRow}
+use Rattle.rm_base.specs.declared.rows.GrantRow.{GrantRow}
+use Rattle.rm_base.specs.declared.rows.GrantRow.TheVariants.{RoleToUser}
 use Rattle.rm_base.specs.declared.statement.Statement.{Statement}
 use Rattle.rm_base.specs.declared.statement.Statement.TheVariants.{CreatePool, AlterPool, DropPool, CreateUser, AlterUser, DropUser, CreateRole, AlterRole, DropRole, GrantUsage, RevokeUsage, GrantRole, RevokeRole}
 use Rattle.rm_base.specs.Name.{same_name}
@@ -18,56 +20,62 @@ use Rattle.rm_rules.specs.declared.state.Reserve.{Reserve}
 use Rattle.rm_rules.specs.declared.state.Runner.{Runner}
 use Rattle.rm_rules.specs.declared.state.Waiter.{Waiter}
 use Rattle.rm_rules.specs.declared.state.Session.{Session}
-use Rattle.rm_rules.specs.Definitions.{pool_called, user_pools}
+use Rattle.rm_rules.specs.Definitions.{user_pools}
 use Rattle.rm_rules.specs.State.{State, none_ended}
 use Rattle.rm_rules.specs.Holdings.{holding, holdings, reserves_of, holdings_of}
 use Rattle.rm_rules.specs.Accounting.{held_in, used, debt, kept_back}
-use Rattle.rm_rules.specs.Acceptance.{with_row, with_pool, accepted, is_judged, created_row, altered_row, create_refusal, alter_refusal}
+use Rattle.rm_rules.specs.PoolStatements.{created_pool, altered_pool, with_pool}
+use Rattle.rm_rules.specs.GrantStatements.{usage_grant, with_grant}
+use Rattle.rm_rules.specs.Acceptance.{left_by, counted, accepted}
 use Rattle.rm_rules.specs.Change.{with_place, defined}
-use Rattle.rm_rules.specs.Sound.{IsSound, has_pool, begins_with_general}
+use Rattle.rm_rules.specs.Sound.{IsSound, has_pool, has_grant, begins_with_general}
 use Rattle.rm_rules.specs.Healthy.{AreSized, AreThere}
-use Rattle.rm_rules.proofs.Taken.{and_left, and_right}
-use Rattle.rm_rules.proofs.Pools.{names}
-use Rattle.rm_rules.proofs.AcceptancePools.{length_with-there}
-use Rattle.rm_rules.proofs.AcceptanceLaws.{all_wider, set_wider, has_pool-with, unless-ok}
+use Rattle.rm_rules.proofs.Taken.{and_left, and_right, all_wider, set_wider}
+use Rattle.rm_rules.proofs.Rows.{names-there, last-absent}
+use Rattle.rm_rules.proofs.Pools.{names, is_called}
+use Rattle.rm_rules.proofs.AcceptanceLaws.{accepted-left}
 
--- an accepted statement puts one row in its place
-pub accepted-row : (d : Definitions) (statement : Statement) (new : Definitions) → is_judged statement ≡ true → accepted d statement ≡ Ok new
-    → (row : PoolRow) × (with_pool d row ≡ new)
-accepted-row d (CreatePool name c) new judged h =
-    (created_row d name c, (unless-ok (create_refusal d name (created_row d name c)) (with_pool d (created_row d name c)) new h).1)
-accepted-row d (AlterPool name c) new judged h =
-    (altered_row d name c, (unless-ok (alter_refusal d name c (altered_row d name c)) (with_pool d (altered_row d name c)) new h).1)
-accepted-row d (DropPool name) new judged h = absurd (false≢true judged)
-accepted-row d (CreateUser name c) new judged h = absurd (false≢true judged)
-accepted-row d (AlterUser name c) new judged h = absurd (false≢true judged)
-accepted-row d (DropUser name) new judged h = absurd (false≢true judged)
-accepted-row d (CreateRole name) new judged h = absurd (false≢true judged)
-accepted-row d (AlterRole name pool) new judged h = absurd (false≢true judged)
-accepted-row d (DropRole name) new judged h = absurd (false≢true judged)
-accepted-row d (GrantUsage pool name) new judged h = absurd (false≢true judged)
-accepted-row d (RevokeUsage pool name) new judged h = absurd (false≢true judged)
-accepted-row d (GrantRole role user) new judged h = absurd (false≢true judged)
-accepted-row d (RevokeRole role user) new judged h = absurd (false≢true judged)
+-- a statement leaves the names of the pools, or puts one behind them that was not there
+pub data NamesAfter (d new : Definitions) : Type 0 where
+  keeps_names : names new.pools ≡ names d.pools → NamesAfter d new
+  adds_name : (row : PoolRow) → has_pool d row.name ≡ false → new.pools ≡ d.pools ++ row ∷ [] → NamesAfter d new
 
--- a row of a pool that is there keeps the names, another comes last
-names-turn : (row r : PoolRow) (rs : List PoolRow) (b : Bool) → same_name r.name row.name ≡ b → is_some (cond b (Some r) (pool_called rs row.name)) ≡ true
-    → (is_some (pool_called rs row.name) ≡ true → names (with_row row rs) ≡ names rs) → names (cond b (row ∷ rs) (r ∷ with_row row rs)) ≡ names (r ∷ rs)
-names-turn row r rs true e there rest = ap (λ n. n ∷ names rs) (sym (same_name-eq r.name row.name e))
-names-turn row r rs false e there rest = ap (λ ns. r.name ∷ ns) (rest there)
+row-turn : (d : Definitions) (row : PoolRow) (b : Bool) → has_pool d row.name ≡ b → NamesAfter d (with_pool d row)
+row-turn d row true there = keeps_names (names-there (λ (r : PoolRow). r.name) row d.pools there)
+row-turn d row false absent = adds_name row absent (last-absent (λ (r : PoolRow). r.name) row d.pools absent)
 
-pub names-there : (row : PoolRow) (pools : List PoolRow) → is_some (pool_called pools row.name) ≡ true → names (with_row row pools) ≡ names pools
-names-there row [] there = absurd (false≢true there)
-names-there row (r ∷ rs) there = names-turn row r rs (same_name r.name row.name) refl there (names-there row rs)
+row-names : (d : Definitions) (row : PoolRow) → NamesAfter d (with_pool d row)
+row-names d row = row-turn d row (has_pool d row.name) refl
 
-last-turn : (row r : PoolRow) (rs : List PoolRow) (b : Bool) → is_some (cond b (Some r) (pool_called rs row.name)) ≡ false
-    → (is_some (pool_called rs row.name) ≡ false → with_row row rs ≡ rs ++ row ∷ []) → cond b (row ∷ rs) (r ∷ with_row row rs) ≡ r ∷ rs ++ row ∷ []
-last-turn row r rs true absent rest = absurd (false≢true (sym absent))
-last-turn row r rs false absent rest = ap (λ l. r ∷ l) (rest absent)
+grant-turn : (d : Definitions) (g : GrantRow) (b : Bool) → (let more : Definitions = record d { grants = d.grants ++ g ∷ [] } in NamesAfter d (cond b d more))
+grant-turn d g true = keeps_names refl
+grant-turn d g false = keeps_names refl
 
-pub last-absent : (row : PoolRow) (pools : List PoolRow) → is_some (pool_called pools row.name) ≡ false → with_row row pools ≡ pools ++ row ∷ []
-last-absent row [] absent = refl
-last-absent row (r ∷ rs) absent = last-turn row r rs (same_name r.name row.name) absent (last-absent row rs)
+grant-names : (d : Definitions) (g : GrantRow) → NamesAfter d (with_grant d g)
+grant-names d g = grant-turn d g (has_grant d.grants g)
+
+left-names : (d : Definitions) (statement : Statement) → NamesAfter d (left_by d statement)
+left-names d (CreatePool name c) = row-names d (created_pool d name c)
+left-names d (AlterPool name c) = row-names d (altered_pool d name c)
+left-names d (DropPool name) = keeps_names refl
+left-names d (CreateUser name c) = keeps_names refl
+left-names d (AlterUser name c) = keeps_names refl
+left-names d (DropUser name) = keeps_names refl
+left-names d (CreateRole name) = keeps_names refl
+left-names d (AlterRole name pool) = keeps_names refl
+left-names d (DropRole name) = keeps_names refl
+left-names d (GrantUsage pool grantee) = grant-names d (usage_grant d pool grantee)
+left-names d (RevokeUsage pool grantee) = keeps_names refl
+left-names d (GrantRole role user) = grant-names d (RoleToUser role user)
+left-names d (RevokeRole role user) = keeps_names refl
+
+counted-names : (d new : Definitions) → NamesAfter d new → NamesAfter d (counted new)
+counted-names d new (keeps_names same) = keeps_names same
+counted-names d new (adds_name row absent last) = adds_name row absent last
+
+pub accepted-names : (d : Definitions) (statement : Statement) (new : Definitions) → accepted d statement ≡ Ok new → NamesAfter d new
+accepted-names d statement new h =
+    subst (NamesAfter d) (accepted-left d statement new h).1 (counted-names d (left_by d statement) (left-names d statement))
 
 -- reserves hang on names and sizes alone
 reserves-named : (rows others : List PoolRow) (ns : List ℕ) → names rows ≡ names others → reserves_of rows ns ≡ reserves_of others ns
@@ -133,69 +141,75 @@ place-more old new x xs e =
     let is : ltb (length old.pools) (length new.pools) ≡ true = grind (arith, nat_tests) in
     ap (λ b. cond b (xs ++ x ∷ []) xs) is
 
--- the sizes, counts and reserves that a row leaves
-pub record HasPlaces (s : State) (row : PoolRow) : Type 0 where
-  pub sized : (let d = with_pool s.definitions row in AreSized d (defined s d).state.actual (defined s d).state.counters)
-  pub kept : kept_back (holdings_of (defined s (with_pool s.definitions row)).state).reserves ≡ kept_back (holdings_of s).reserves
-  pub debts : sum_by (debt (holdings s.running)) (holdings_of (defined s (with_pool s.definitions row)).state).reserves ≡ sum_by (debt (holdings s.running)) (holdings_of s).reserves
+-- the sizes, counts and reserves that a statement leaves
+pub record HasPlaces (s : State) (d : Definitions) : Type 0 where
+  pub sized : AreSized d (defined s d).state.actual (defined s d).state.counters
+  pub kept : kept_back (holdings_of (defined s d).state).reserves ≡ kept_back (holdings_of s).reserves
+  pub debts : sum_by (debt (holdings s.running)) (holdings_of (defined s d).state).reserves ≡ sum_by (debt (holdings s.running)) (holdings_of s).reserves
 
-places-there : (s : State) (row : PoolRow) → AreSized s.definitions s.actual s.counters → has_pool s.definitions row.name ≡ true → HasPlaces s row
-places-there s row sized there =
+pub names-length : (pools : List PoolRow) → length (names pools) ≡ length pools
+names-length pools = length-map pools (λ (r : PoolRow). r.name)
+
+places-kept : (s : State) (new : Definitions) → AreSized s.definitions s.actual s.counters → names new.pools ≡ names s.definitions.pools → HasPlaces s new
+places-kept s new sized same =
     let d = s.definitions in
-    let pools = d.pools in
-    let many : length (with_row row pools) ≡ length pools = length_with-there row pools there in
-    let size = place-same d (with_pool d row) 0 s.actual many in
-    let counter = place-same d (with_pool d row) none_ended s.counters many in
-    let same : (holdings_of (defined s (with_pool d row)).state).reserves ≡ (holdings_of s).reserves =
-    ap (reserves_of (user_pools (with_row row pools))) size ∙ reserves-named (user_pools (with_row row pools)) (user_pools pools) s.actual (user_named (with_row row pools) pools (names-there row pools there)) in
+    let many : length new.pools ≡ length d.pools = omega (arith, names-length new.pools, names-length d.pools, ap (λ (ns : List Name). length ns) same) in
+    let size = place-same d new 0 s.actual many in
+    let counter = place-same d new none_ended s.counters many in
+    let stays : (holdings_of (defined s new).state).reserves ≡ (holdings_of s).reserves =
+    ap (reserves_of (user_pools new.pools)) size ∙ reserves-named (user_pools new.pools) (user_pools d.pools) s.actual (user_named new.pools d.pools same) in
     record {
       sized = record {
-        sizes = ap (λ (l : List ℕ). length l) size ∙ omega (arith, sized.sizes, many, user_length pools, user_length (with_row row pools));
+        sizes = ap (λ (l : List ℕ). length l) size ∙ omega (arith, sized.sizes, many, user_length d.pools, user_length new.pools);
         counts = ap (λ l. length l) counter ∙ sized.counts ∙ sym many;
       };
-      kept = ap kept_back same;
-      debts = ap (sum_by (debt (holdings s.running))) same;
+      kept = ap kept_back stays;
+      debts = ap (sum_by (debt (holdings s.running))) stays;
     }
 
-places-absent : (s : State) (row : PoolRow) → IsSound s.definitions → AreSized s.definitions s.actual s.counters
-    → AreThere s.definitions s.sessions s.waiting s.running → has_pool s.definitions row.name ≡ false → HasPlaces s row
-places-absent s row sound sized there absent =
+places-added : (s : State) (new : Definitions) (row : PoolRow) → IsSound s.definitions → AreSized s.definitions s.actual s.counters
+    → AreThere s.definitions s.sessions s.waiting s.running → has_pool s.definitions row.name ≡ false → new.pools ≡ s.definitions.pools ++ row ∷ [] → HasPlaces s new
+places-added s new row sound sized there absent last =
     let d = s.definitions in
     let pools = d.pools in
-    let last = last-absent row pools absent in
-    let many : length (with_row row pools) ≡ length pools + 1 = ap (λ l. length l) last ∙ omega (arith, length_push pools row) in
-    let size = place-more d (with_pool d row) 0 s.actual many in
-    let counter = place-more d (with_pool d row) none_ended s.counters many in
-    let users : user_pools (with_row row pools) ≡ user_pools pools ++ row ∷ [] = ap user_pools last ∙ user_push pools row sound.general_first in
+    let many : length new.pools ≡ length pools + 1 = ap (λ l. length l) last ∙ omega (arith, length_push pools row) in
+    let size = place-more d new 0 s.actual many in
+    let counter = place-more d new none_ended s.counters many in
+    let users : user_pools new.pools ≡ user_pools pools ++ row ∷ [] = ap user_pools last ∙ user_push pools row sound.general_first in
     let unused = used-absent d row.name s.running absent there.runs in
     let old = (holdings_of s).reserves in
-    let new : Reserve = record { pool = row.name; size = 0 } in
-    let more : (holdings_of (defined s (with_pool d row)).state).reserves ≡ old ++ new ∷ [] =
-    ap (reserves_of (user_pools (with_row row pools))) size ∙ ap (λ rows. reserves_of rows (s.actual ++ 0 ∷ [])) users ∙ reserves-push (user_pools pools) s.actual row sized.sizes in
+    let reserve : Reserve = record { pool = row.name; size = 0 } in
+    let more : (holdings_of (defined s new).state).reserves ≡ old ++ reserve ∷ [] =
+    ap (reserves_of (user_pools new.pools)) size ∙ ap (λ rows. reserves_of rows (s.actual ++ 0 ∷ [])) users ∙ reserves-push (user_pools pools) s.actual row sized.sizes in
     record {
       sized = record {
         sizes = ap (λ (l : List ℕ). length l) size ∙ omega (arith, sized.sizes, length_push s.actual 0, ap (λ l. length l) users, length_push (user_pools pools) row);
         counts = ap (λ l. length l) counter ∙ omega (arith, length_push s.counters none_ended, sized.counts, many);
       };
-      kept = ap kept_back more ∙ omega (arith, sum_by_push (λ (e : Reserve). e.size) old new);
-      debts = ap (sum_by (debt (holdings s.running))) more ∙ omega (arith, sum_by_push (debt (holdings s.running)) old new, unused);
+      kept = ap kept_back more ∙ omega (arith, sum_by_push (λ (e : Reserve). e.size) old reserve);
+      debts = ap (sum_by (debt (holdings s.running))) more ∙ omega (arith, sum_by_push (debt (holdings s.running)) old reserve, unused);
     }
 
-places-turn : (s : State) (row : PoolRow) (b : Bool) → has_pool s.definitions row.name ≡ b → IsSound s.definitions → AreSized s.definitions s.actual s.counters
-    → AreThere s.definitions s.sessions s.waiting s.running → HasPlaces s row
-places-turn s row true e sound sized there = places-there s row sized e
-places-turn s row false e sound sized there = places-absent s row sound sized there e
-
-pub places : (s : State) (row : PoolRow) → IsSound s.definitions → AreSized s.definitions s.actual s.counters
-    → AreThere s.definitions s.sessions s.waiting s.running → HasPlaces s row
-places s row sound sized there = places-turn s row (has_pool s.definitions row.name) refl sound sized there
+pub places : (s : State) (new : Definitions) → NamesAfter s.definitions new → IsSound s.definitions → AreSized s.definitions s.actual s.counters
+    → AreThere s.definitions s.sessions s.waiting s.running → HasPlaces s new
+places s new (keeps_names same) sound sized there = places-kept s new sized same
+places s new (adds_name row absent last) sound sized there = places-added s new row sound sized there absent last
 
 -- the pools that were there are there
-pub there-with : (d : Definitions) (row : PoolRow) (sessions : List Session) (waiting : List Waiter) (running : List Runner)
-    → AreThere d sessions waiting running → AreThere (with_pool d row) sessions waiting running
-there-with d row sessions waiting running there = record {
-  runs = all_wider (λ (r : Runner). has_pool d r.pool) (λ r. has_pool (with_pool d row) r.pool) running (λ r known. has_pool-with d row r.pool known) there.runs;
-  waits = all_wider (λ (w : Waiter). has_pool d w.pool) (λ w. has_pool (with_pool d row) w.pool) waiting (λ w known. has_pool-with d row w.pool known) there.waits;
-  chosen = all_wider (λ (x : Session). passes_if_set (has_pool d) x.pool) (λ x. passes_if_set (has_pool (with_pool d row)) x.pool) sessions
-      (λ x known. set_wider (has_pool d) (has_pool (with_pool d row)) x.pool (λ n is. has_pool-with d row n is) known) there.chosen;
+any-push : (n : Name) (ns : List Name) (m : Name) → list_any (same_name n) ns ≡ true → list_any (same_name n) (ns ++ m ∷ []) ≡ true
+any-push n ns m there = list_any-append (same_name n) ns (m ∷ []) ∙ ap (λ b. b || list_any (same_name n) (m ∷ [])) there
+
+stays-there : (d new : Definitions) → NamesAfter d new → (n : Name) → has_pool d n ≡ true → has_pool new n ≡ true
+stays-there d new (keeps_names same) n there = is_called new.pools n ∙ ap (list_any (same_name n)) same ∙ sym (is_called d.pools n) ∙ there
+stays-there d new (adds_name row absent last) n there =
+    is_called new.pools n ∙ ap (λ (l : List PoolRow). list_any (same_name n) (names l)) last ∙ ap (list_any (same_name n)) (map_push (λ (r : PoolRow). r.name) d.pools row)
+    ∙ any-push n (names d.pools) row.name (sym (is_called d.pools n) ∙ there)
+
+pub there-after : (d new : Definitions) (sessions : List Session) (waiting : List Waiter) (running : List Runner) → NamesAfter d new
+    → AreThere d sessions waiting running → AreThere new sessions waiting running
+there-after d new sessions waiting running after there = record {
+  runs = all_wider (λ (r : Runner). has_pool d r.pool) (λ r. has_pool new r.pool) running (λ r known. stays-there d new after r.pool known) there.runs;
+  waits = all_wider (λ (w : Waiter). has_pool d w.pool) (λ w. has_pool new w.pool) waiting (λ w known. stays-there d new after w.pool known) there.waits;
+  chosen = all_wider (λ (x : Session). passes_if_set (has_pool d) x.pool) (λ x. passes_if_set (has_pool new) x.pool) sessions
+      (λ x known. set_wider (has_pool d) (has_pool new) x.pool (λ n is. stays-there d new after n is) known) there.chosen;
 }

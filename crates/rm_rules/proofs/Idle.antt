@@ -35,7 +35,7 @@ use Rattle.rm_rules.proofs.Pools.{names, reserve_names, worth, sum_by-map}
 use Rattle.rm_rules.proofs.Bytes.{apart, apart-rest, reserve_names-of, named-pool, lent-none}
 use Rattle.rm_rules.proofs.Queue.{heads_wait, ordered_among}
 use Rattle.rm_rules.proofs.Covering.{user_memory-most}
-use Rattle.rm_rules.proofs.AcceptanceLaws.{pool_row_in_range}
+use Rattle.rm_rules.proofs.PoolLaws.{pool_row_in_range}
 use Rattle.rm_rules.proofs.Rests.{RestsAt, AllRest, Rests}
 
 -- each of these rows is the one that is found by its name

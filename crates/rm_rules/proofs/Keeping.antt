@@ -27,10 +27,11 @@ use Rattle.rm_rules.specs.Replay.{IsFormed}
 use Rattle.rm_rules.specs.Sound.{has_pool}
 use Rattle.rm_rules.specs.Owed.{owed, entries_moving, entries_waiting, entries_running}
 use Rattle.rm_rules.specs.Healthy.{AreInPhase, AreThere, AreOpened, AreNumbered, IsHealthyWith, IsUnsettledWith, counted_for, defining_for, one_if}
-use Rattle.rm_rules.proofs.Taken.{and_left, and_right, all_found, all_push, found_counted}
+use Rattle.rm_rules.proofs.Taken.{and_left, and_right, all_found, all_push, all_wider, found_counted}
 use Rattle.rm_rules.proofs.Changed.{turns-stay, turns-leave, turns-come}
 use Rattle.rm_rules.proofs.Known.{session_pool-known, chosen-choice}
-use Rattle.rm_rules.proofs.AcceptanceLaws.{not_below, all_wider, accepted-sound, accepted-counted}
+use Rattle.rm_rules.proofs.Refused.{not_below}
+use Rattle.rm_rules.proofs.AcceptanceLaws.{accepted-sound, accepted-counted}
 use Rattle.rm_rules.proofs.Phases.{phase_of-found, count-with, phase_of-choice, count-choice, length-choice, opened-choice, opened-with, phase_of-push, count-push, there_if_live, live-counts, live-most, length-with}
 use Rattle.rm_rules.proofs.Moving.{Goes, in_phase-goes, there-goes, numbered-goes, owed-goes, room-owed}
 use Rattle.rm_rules.proofs.Covering.{held-finished, held-defined}

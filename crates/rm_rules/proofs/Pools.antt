@@ -12,6 +12,7 @@ use Rattle.rm_rules.specs.declared.state.Reserve.{Reserve}
 use Rattle.rm_rules.specs.Definitions.{pool_called, user_pools}
 use Rattle.rm_rules.specs.Accounting.{of_reserve}
 use Rattle.rm_rules.specs.Sound.{begins_with_general, are_distinct}
+use Rattle.rm_rules.proofs.Rows.{called-named}
 
 -- the names of these rows, and of the pools of these reserves
 abbrev pub names : List PoolRow → List Name
@@ -88,14 +89,8 @@ split_by_pools pool f ps (x ∷ xs) distinct known =
     omega (arith, sum_by-cons f x xs, each, both, once (pool x) (f x) ps distinct parts.0, split_by_pools pool f ps xs distinct parts.1)
 
 -- a row of this name is there just where the name is among those of the rows
-is_called_turn : (r : PoolRow) (rows : List PoolRow) (n : Name) (b : Bool) → same_name n r.name ≡ b
-    → is_some (pool_called rows n) ≡ list_any (same_name n) (names rows) → is_some (pool_called (r ∷ rows) n) ≡ list_any (same_name n) (names (r ∷ rows))
-is_called_turn r rows n true e behind = rw (same_name-sym r.name n, e) refl
-is_called_turn r rows n false e behind = rw (same_name-sym r.name n, e) behind
-
 pub is_called : (rows : List PoolRow) (n : Name) → is_some (pool_called rows n) ≡ list_any (same_name n) (names rows)
-is_called [] n = refl
-is_called (r ∷ rows) n = is_called_turn r rows n (same_name n r.name) refl (is_called rows n)
+is_called rows n = called-named (λ (r : PoolRow). r.name) rows n
 
 -- the names of all pools are GENERAL's and those of the other pools
 pub pool_names : (pools : List PoolRow) → begins_with_general pools ≡ true → names pools ≡ general ∷ names (user_pools pools)

@@ -25,7 +25,7 @@ unwrapped-most : (o : Option ℕ) (other : ℕ) → passes_if_set (λ n. nat_le 
 unwrapped-most None other h fits = fits
 unwrapped-most (Some n) other h fits = leb-true n MEMORY_MOST h
 
-row-in_range : (pools : List PoolRow) (name : Name) (o : Option PoolRow) → pool_called pools name ≡ o → list_all is_pool_in_range pools ≡ true
+pub row-in_range : (pools : List PoolRow) (name : Name) (o : Option PoolRow) → pool_called pools name ≡ o → list_all is_pool_in_range pools ≡ true
     → is_pool_in_range (unwrap_or o (default_pool_row name)) ≡ true
 row-in_range pools name None e all = refl
 row-in_range pools name (Some r) e all = all_found is_pool_in_range (λ x. same_name x.name name) pools r all e

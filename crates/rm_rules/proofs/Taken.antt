@@ -1,8 +1,9 @@
 -- A list without the first that passes a test: sums, lengths and counts.
-use Rattle.std.proofs.Common.{◌≡◌, ℕ, ◌+◌, ◌≤◌, Bool, true, false, ◌&&◌, ◌||◌, not, cond, List, [], ◌∷◌, ◌++◌, length, Some, None, refl, sym, ap, ◌∙◌, arith, sum_by, count_by}
+use Rattle.std.proofs.Common.{◌≡◌, ℕ, ◌+◌, ◌≤◌, Bool, true, false, ◌&&◌, ◌||◌, not, cond, List, [], ◌∷◌, ◌++◌, length, Option, Some, None, refl, sym, ap, ◌∙◌, arith, sum_by, count_by}
 use Rattle.std.specs.List.{find, list_all}
 use Rattle.std.proofs.lemmas.List.Sums.{sum_by-cons}
 use Rattle.std.proofs.lemmas.Bool.{false≢true}
+use Rattle.rm_base.specs.Ranges.{passes_if_set}
 use Rattle.rm_rules.specs.State.{without}
 
 -- the sum without the one that is found, and that one
@@ -57,6 +58,16 @@ and_right false b h = absurd (false≢true h)
 
 pub and_both : (a b : Bool) → a ≡ true → b ≡ true → (a && b) ≡ true
 and_both a b h k = ap (λ c. c && b) h ∙ k
+
+-- what passes one test passes a wider one
+pub all_wider : {A : Type 0} (p q : A → Bool) (xs : List A) → ((x : A) → p x ≡ true → q x ≡ true) → list_all p xs ≡ true → list_all q xs ≡ true
+all_wider p q [] wider all = refl
+all_wider p q (x ∷ xs) wider all =
+    and_both (q x) _ (wider x (and_left (p x) (list_all p xs) all)) (all_wider p q xs wider (and_right (p x) (list_all p xs) all))
+
+pub set_wider : {A : Type 0} (p q : A → Bool) (o : Option A) → ((x : A) → p x ≡ true → q x ≡ true) → passes_if_set p o ≡ true → passes_if_set q o ≡ true
+set_wider p q None wider passes = refl
+set_wider p q (Some x) wider passes = wider x passes
 
 -- a test that all pass, all pass without one, and with one more
 pub all_without : {A : Type 0} (p test : A → Bool) (xs : List A) → list_all p xs ≡ true → list_all p (without test xs) ≡ true

@@ -21,8 +21,7 @@ use Rattle.rm_rules.specs.Fit.{has_place, poolfit}
 use Rattle.rm_rules.specs.Admission.{ask_of, judged_for, first_entitled, started, admitted}
 use Rattle.rm_rules.specs.Settle.{settled}
 use Rattle.rm_rules.specs.Grants.{runner_called}
-use Rattle.rm_rules.proofs.Taken.{and_left, and_right, all_push, all_found}
-use Rattle.rm_rules.proofs.AcceptanceLaws.{all_wider}
+use Rattle.rm_rules.proofs.Taken.{and_left, and_right, all_push, all_found, all_wider}
 use Rattle.rm_rules.proofs.Bytes.{used-push}
 use Rattle.rm_rules.proofs.Queue.{first_entitled_fits}
 use Rattle.rm_rules.proofs.Found.{found-behind}

@@ -1,5 +1,5 @@
 -- What each event is refused with, and what it changes.
-use Rattle.std.specs.Prelude.{ℕ, true, false, ◌+◌, ◌*◌, Bool, ◌==◌, nat_le, nat_lt, not, List, [], ◌∷◌, ◌++◌, Option, Some, None, Result, Ok, Err, length, find, is_some, if◌then◌else◌}
+use Rattle.std.specs.Prelude.{ℕ, true, false, ◌+◌, ◌*◌, Bool, ◌==◌, nat_le, nat_lt, not, List, [], ◌∷◌, ◌++◌, Option, Some, None, Result, Ok, Err, length, find, if◌then◌else◌}
 use Rattle.rm_base.specs.declared.limits.TheConstants.{SESSIONS_MOST, ENTRIES_A_QUERY, ENTRIES_A_SESSION}
 use Rattle.rm_base.specs.declared.definitions.Definitions.{Definitions}
 use Rattle.rm_base.specs.declared.event.Event.{Event}
@@ -18,9 +18,9 @@ use Rattle.rm_rules.specs.declared.state.Phase.TheVariants as phase
 use Rattle.rm_rules.specs.declared.state.Session.{Session}
 use Rattle.rm_rules.specs.declared.state.Waiter.{Waiter}
 use Rattle.rm_rules.specs.declared.state.Runner.{Runner}
-use Rattle.rm_rules.specs.Definitions.{pool_row, user_called, usage}
-use Rattle.rm_rules.specs.Refusals.{refused_if, first_refusal, unless_refused}
-use Rattle.rm_rules.specs.Acceptance.{accepted, pool_missing}
+use Rattle.rm_rules.specs.Definitions.{pool_row, usage}
+use Rattle.rm_rules.specs.Refusals.{refused_if, first_refusal, unless_refused, pool_missing, user_missing}
+use Rattle.rm_rules.specs.Acceptance.{accepted}
 use Rattle.rm_rules.specs.Ask.{is_too_large, too_large}
 use Rattle.rm_rules.specs.State.{State, none_ended, with_choice, session_of, session_pool, with_phase, without_session, without_waiter, without_runner, is_idle, is_running, live_queries, counted_entries}
 
@@ -41,10 +41,6 @@ changing s answer = record { state = s; answer = answer; changed = true }
 -- what is done for the open session of this number that the seat has opened
 abbrev pub with_session : State → ℕ → ℕ → (Session → Result Change Refusal) → Result Change Refusal
 with_session s seat number act = elim (session_of s seat number) [ Some x ↦ act x | None ↦ Err refusal.NoSuchSession ]
-
--- 8: there is no such user
-abbrev pub user_missing : Definitions → Name → Option Refusal
-user_missing d user = refused_if (not (is_some (user_called d.users user))) (refusal.NoSuchUser user)
 
 -- 19: the query is too large for the pool
 abbrev pub size_refusal : Definitions → Name → Name → ℕ → Option Refusal

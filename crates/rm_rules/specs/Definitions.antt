@@ -9,6 +9,8 @@ use Rattle.rm_base.specs.declared.rows.RoleRow.{RoleRow}
 use Rattle.rm_base.specs.declared.rows.GrantRow.{GrantRow}
 use Rattle.rm_base.specs.declared.rows.GrantRow.TheVariants.{PoolToUser, PoolToRole, RoleToUser}
 use Rattle.rm_base.specs.declared.name.Name.{Name}
+use Rattle.rm_base.specs.declared.statement.Size.{Size}
+use Rattle.rm_base.specs.declared.statement.Size.TheVariants.{Bytes, Percent}
 use Rattle.rm_base.specs.Name.{same_name, general, dbadmin}
 use Rattle.rm_base.specs.Definitions.{default_pool_row}
 
@@ -38,6 +40,11 @@ memory_of d name = (pool_row d name).memory
 -- so many percent of a whole, rounded down
 abbrev pub percent_of : ℕ → ℕ → ℕ
 percent_of whole percent = percent * whole / PERCENT_MOST
+
+-- a size in bytes: a percentage is taken of this whole, and rounded down
+abbrev pub bytes_of : ℕ → Size → ℕ
+bytes_of whole (Bytes n) = n
+bytes_of whole (Percent n) = percent_of whole n
 
 -- what of a whole may be used before others wait: 95 percent
 abbrev pub usable : ℕ → ℕ
@@ -73,6 +80,16 @@ gives_usage grants user pool (RoleToUser r u) = false
 -- USAGE: everyone may use GENERAL, and `dbadmin` every pool
 abbrev pub usage : Definitions → Name → Name → Bool
 usage d user pool = same_name pool general || (same_name user dbadmin || list_any (gives_usage d.grants user pool) d.grants)
+
+-- a grant gives the pool to the role
+abbrev pub gives_role : Name → Name → GrantRow → Bool
+gives_role role pool (PoolToRole p r) = same_name p pool && same_name r role
+gives_role role pool (PoolToUser p u) = false
+gives_role role pool (RoleToUser r u) = false
+
+-- USAGE of a role: GENERAL, and what a grant gives to it
+abbrev pub role_usage : Definitions → Name → Name → Bool
+role_usage d role pool = same_name pool general || list_any (gives_role role pool) d.grants
 
 -- the pool of a role, where the grant makes the user a member of it
 abbrev pub pool_by_role : List RoleRow → Name → GrantRow → Option Name

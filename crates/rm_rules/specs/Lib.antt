@@ -1,6 +1,10 @@
 pub mod Definitions
 pub mod Sound
 pub mod Refusals
+pub mod Tables
+pub mod PoolStatements
+pub mod GrantStatements
+pub mod UserStatements
 pub mod Acceptance
 pub mod Budget
 pub mod Ask

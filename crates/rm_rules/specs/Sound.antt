@@ -1,5 +1,5 @@
 -- When definitions are sound.
-use Rattle.std.specs.Prelude.{◌≡◌, ℕ, ◌-◌, ◌*◌, ◌≤◌, zero, suc, Bool, true, false, ◌&&◌, ◌==◌, nat_le, not, List, [], ◌∷◌, ◌++◌, Option, Some, None, is_some, length, map}
+use Rattle.std.specs.Prelude.{◌≡◌, ℕ, ◌-◌, ◌*◌, ◌≤◌, zero, suc, Bool, true, false, ◌&&◌, ◌||◌, ◌==◌, nat_le, not, List, [], ◌∷◌, ◌++◌, Option, Some, None, is_some, length, map}
 use Rattle.std.specs.List.{list_all, list_any}
 use Rattle.rm_base.specs.declared.limits.TheConstants.{MEMORY_LEAST, MEMORY_MOST, TOTAL_LEAST, GENERAL_PART, CORES_MOST, POOLS_MOST, USERS_MOST, ROLES_MOST, GRANTS_MOST, CHANGES_MOST, CHAIN_MOST}
 use Rattle.rm_base.specs.declared.definitions.Definitions.{Definitions}
@@ -25,8 +25,19 @@ are_distinct (n ∷ ns) = not (list_any (same_name n) ns) && are_distinct ns
 abbrev pub is_within_max : PoolRow → Bool
 is_within_max r = passes_if_set (λ most. nat_le r.memory most) r.max
 
+-- a pool, a user, a role of this name is there
 abbrev pub has_pool : Definitions → Name → Bool
 has_pool d name = is_some (pool_called d.pools name)
+
+abbrev pub has_user : Definitions → Name → Bool
+has_user d name = is_some (user_called d.users name)
+
+abbrev pub has_role : Definitions → Name → Bool
+has_role d name = is_some (role_called d.roles name)
+
+-- who may get a pool: a user or a role, which have no name in common
+abbrev pub has_grantee : Definitions → Name → Bool
+has_grantee d name = has_user d name || has_role d name
 
 -- a chain of CASCADE TO that goes on from here ends after so many pools at most, all of which are there
 abbrev pub chain_ends : List PoolRow → ℕ → Option Name → Bool
@@ -35,9 +46,9 @@ chain_ends pools (suc most) next = elim next [ None ↦ true | Some name ↦ eli
 
 -- a grant names what is there
 abbrev pub is_grant_known : Definitions → GrantRow → Bool
-is_grant_known d (PoolToUser p u) = has_pool d p && is_some (user_called d.users u)
-is_grant_known d (PoolToRole p r) = has_pool d p && is_some (role_called d.roles r)
-is_grant_known d (RoleToUser r u) = is_some (role_called d.roles r) && is_some (user_called d.users u)
+is_grant_known d (PoolToUser p u) = has_pool d p && has_user d u
+is_grant_known d (PoolToRole p r) = has_pool d p && has_role d r
+is_grant_known d (RoleToUser r u) = has_role d r && has_user d u
 
 abbrev pub same_grant : GrantRow → GrantRow → Bool
 same_grant (PoolToUser a b) (PoolToUser c d) = same_name a c && same_name b d
@@ -50,10 +61,14 @@ same_grant (RoleToUser a b) (PoolToUser c d) = false
 same_grant (RoleToUser a b) (PoolToRole c d) = false
 same_grant (RoleToUser a b) (RoleToUser c d) = same_name a c && same_name b d
 
+-- the grant is one of these
+abbrev pub has_grant : List GrantRow → GrantRow → Bool
+has_grant grants g = list_any (same_grant g) grants
+
 -- no grant stands twice
 abbrev pub are_grants_distinct : List GrantRow → Bool
 are_grants_distinct [] = true
-are_grants_distinct (g ∷ gs) = not (list_any (same_grant g) gs) && are_grants_distinct gs
+are_grants_distinct (g ∷ gs) = not (has_grant gs g) && are_grants_distinct gs
 
 pub record IsSound (d : Definitions) : Type 0 where
   pub memory : is_between MEMORY_LEAST MEMORY_MOST d.memory ≡ true
@@ -64,7 +79,7 @@ pub record IsSound (d : Definitions) : Type 0 where
   pub role_count : length d.roles ≤ ROLES_MOST
   pub grant_count : length d.grants ≤ GRANTS_MOST
   pub general_first : begins_with_general d.pools ≡ true
-  pub dbadmin_there : is_some (user_called d.users dbadmin) ≡ true
+  pub dbadmin_there : has_user d dbadmin ≡ true
   pub pools_distinct : are_distinct (map (λ r. r.name) d.pools) ≡ true
   pub users_distinct : are_distinct (map (λ u. u.name) d.users ++ map (λ r. r.name) d.roles) ≡ true
   pub pools_in_range : list_all is_pool_in_range d.pools ≡ true

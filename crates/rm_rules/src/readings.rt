@@ -33,7 +33,7 @@ pub fn role_called(roles: &[RoleRow], name: Name) -> Option<RoleRow>
 }
 
 /// The pool's row; a pool that is not there is read as one with all defaults.
-#[tactic(auto, using(crate::proofs::AcceptanceLaws::pool_row_in_range))]
+#[tactic(auto, using(crate::proofs::PoolLaws::pool_row_in_range))]
 pub fn pool_row(definitions: &Definitions, name: Name) -> PoolRow
     ensures value { result ≡ pool_row definitions.now name }
     ensures in_range { IsSound definitions.now → IsTrue (is_pool_in_range result) }

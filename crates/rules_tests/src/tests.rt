@@ -1,4 +1,5 @@
 mod asks;
 mod defined;
 mod soundness;
+mod statements;
 mod users;

@@ -1,12 +1,12 @@
 use Rattle.std.proofs.Common.{subst, sym, ap, ◌∙◌, true, ◌≡◌}
 use Rattle.rm_base.specs.declared.rows.PoolRow.{PoolRow}
 use Rattle.rm_base.specs.Ranges.{is_pool_in_range}
-use Rattle.rm_rules.specs.Acceptance.{changed_row, created_row}
-use Rattle.rm_rules.proofs.AcceptanceLaws.{created-in_range}
-use Rattle.pool_table.proofs.rows.created_row.Goals as goal
+use Rattle.rm_rules.specs.PoolStatements.{changed_pool, created_pool}
+use Rattle.rm_rules.proofs.PoolLaws.{created-in_range}
+use Rattle.pool_table.proofs.pools.created_pool.Goals as goal
 
 pub returns-clause-in_range : goal.returns-clause-in_range
 returns-clause-in_range c =
-    let same : c.changed_row.result ≡ created_row c.args.definitions.now c.args.name c.args.change.now =
-    c.changed_row.ensures ∙ ap (λ (r : PoolRow). changed_row c.args.definitions.now r c.args.change.now) c.default_pool_row.ensures in
+    let same : c.changed_pool.result ≡ created_pool c.args.definitions.now c.args.name c.args.change.now =
+    c.changed_pool.ensures ∙ ap (λ (r : PoolRow). changed_pool c.args.definitions.now r c.args.change.now) c.default_pool_row.ensures in
     subst (λ (r : PoolRow). is_pool_in_range r ≡ true) (sym same) (created-in_range c.args.definitions.now c.args.name c.args.change.now c.requires.sound c.requires.formed)
