@@ -1,11 +1,10 @@
 -- The sessions that a script holds, each with its grant while one is out.
-use Rattle.std.specs.Prelude.{◌≡◌, ◌≢◌, ◌<◌, ℕ, List, [], ◌∷◌, length, map, position, Option, Some, is_some, Result, Ok, Err}
+use Rattle.std.specs.Prelude.{◌≡◌, ◌≢◌, ℕ, List, [], ◌∷◌, map, Option, Some, is_some, Result, Ok, Err}
 use Rattle.std.specs.Option.{ForSome}
 use Rattle.rm_base.specs.declared.name.Name.{Name}
 use Rattle.rm_base.specs.declared.refusal.Refusal.{Refusal}
 use Rattle.rm_base.specs.declared.reply.Reply.{Reply}
 use Rattle.rm_base.specs.declared.reply.Reply.TheVariants as reply
-use Rattle.rm_base.specs.Name.{same_name}
 use Rattle.sessions.specs.declared.held.Held.{Held}
 use Rattle.sessions.specs.declared.submitted.Submitted.{Submitted}
 use Rattle.sessions.specs.declared.submitted.Submitted.TheVariants.{Admitted, Waiting, Ended, Refused}
@@ -13,6 +12,7 @@ use Rattle.sessions.specs.Granted.{Granted}
 use Rattle.sessions.specs.Host.{Known}
 use Rattle.sessions.specs.Session.{SeesOpen, HoldsGrant}
 use Rattle.sessions.specs.SessionNames.{Named}
+use Rattle.sessions.specs.Texts.{line_text, queued_text}
 
 -- a held session, by its name and its number
 abbrev pub named : Held → Named
@@ -21,13 +21,9 @@ named h = record { name = h.name; session = h.session.number }
 abbrev pub names_of : List Held → List Named
 names_of held = map named held
 
--- the place of the first that has this name
-abbrev pub place_named : List Held → Name → Option ℕ
-place_named held name = position (λ h. same_name h.name name) held
-
 -- The session is open, it knows whether its grant is out, and the query runs to which that was given.
 pub record IsHeld (known : Known) (h : Held) : Type 0 where
-  pub open : SeesOpen known h.session.number
+  pub opened : SeesOpen known h.session.number
   pub told : h.session.granted ≡ is_some h.grant
   pub own : ForSome h.grant (HoldsGrant known h.session.number)
 
@@ -40,6 +36,17 @@ AreApart number (h ∷ hs) = (h.session.number ≢ number) × AreApart number hs
 abbrev pub AreHeld : Known → List Held → Type 0
 AreHeld known [] = Unit {0}
 AreHeld known (h ∷ hs) = IsHeld known h × AreApart h.session.number hs × AreHeld known hs
+
+-- the reply that told this, but for the number of the query, which is not printed
+abbrev pub printed : Submitted → Reply
+printed (Admitted grant account) = reply.Admitted 0 account.pool grant.bytes account.own account.borrowed
+printed (Waiting place) = reply.Waiting 0 place
+printed (Ended end) = reply.Ended end
+printed (Refused refusal) = reply.Refused refusal
+
+-- two replies print the same, to Submit and else
+abbrev pub PrintsAs : Reply → Reply → Type 0
+PrintsAs a b = (session : Name) → (line_text session a ≡ line_text session b) × (queued_text session a ≡ queued_text session b)
 
 -- the grant that is out after a reply to Submit or Poll, where this one was before
 abbrev pub grant_after : Submitted → Option Granted → Option Granted

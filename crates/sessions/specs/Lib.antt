@@ -4,6 +4,7 @@ pub mod Failures
 pub mod Granted
 pub mod Held
 pub mod Host
+pub mod Kept
 pub mod Lines
 pub mod Numbers
 pub mod Options

@@ -63,16 +63,21 @@ abbrev pub chosen_turn : ScriptState → Name → ℕ → Option Name → Turn
 chosen_turn s session number None = Goes (line_text session (reply.Opened number)) s
 chosen_turn s session number (Some pool) = called s (event.SetPool number pool) (chosen_text session number)
 
--- what follows Open: a session that was opened has its name, whether or not its pool is set
+-- the script's names after the reply to Open: a session that was opened has its name, whether or not its pool is set
+abbrev pub after_open : ScriptState → Name → Reply → ScriptState
+after_open s session (reply.Opened number) = with_name s session number
+after_open s session answer = s
+
+-- what follows Open
 abbrev pub opened_turn : ScriptState → Name → Option Name → Reply → Turn
-opened_turn s session pool (reply.Opened number) = chosen_turn (with_name s session number) session number pool
+opened_turn s session pool (reply.Opened number) = chosen_turn s session number pool
 opened_turn s session pool answer = Goes (line_text session answer) s
 
 -- Open, and what follows it
 abbrev pub opening_turn : ScriptState → Name → Name → Option Name → Turn
 opening_turn s session user pool =
     let o = step s.machine 0 s.moment (event.Open user) in
-    opened_turn (record s { machine = o.state }) session pool o.reply
+    opened_turn (after_open (record s { machine = o.state }) session o.reply) session pool o.reply
 
 -- `open S USER` or `open S USER POOL`: bad where a session has the name
 abbrev pub open_turn : ScriptState → Name → Name → Option Name → Turn

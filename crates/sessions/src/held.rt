@@ -1,24 +1,22 @@
 //! The sessions that a script has opened, by its names for them.
 
-ghost use Rattle.std.specs.Prelude.{◌≡◌, ◌<◌, length, IfOk, IfErr, IfSome, string_bytes};
-ghost use Rattle.sessions.specs.Held.{named, names_of, place_named, IsHeld, grant_after, closing_reply};
+ghost use Rattle.std.specs.Prelude.{◌≡◌, ◌<◌, length, position, IfErr, IfSome};
+ghost use Rattle.std.specs.List.{list_any};
+ghost use Rattle.rm_base.specs.Name.{same_name};
+ghost use Rattle.sessions.specs.Held.{named, IsHeld, printed, PrintsAs, grant_after, closing_reply};
 ghost use Rattle.sessions.specs.Host.{desk_known};
 ghost use Rattle.sessions.specs.Session.{CallsOnce};
-ghost use Rattle.sessions.specs.SessionNames.{is_used};
-ghost use Rattle.sessions.specs.Texts.{line_text, queued_text};
 
 use crate::grant::Grant;
 use crate::host::Host;
 use crate::session::Session;
 use crate::submitted::Submitted;
-use crate::texts::{line_text, queued_text, told_text};
 use machine::desk::Desk;
 use rm_base::event::Event;
 use rm_base::moment::Moment;
 use rm_base::name::Name;
 use rm_base::refusal::Refusal;
 use rm_base::reply::Reply;
-use std::alloc::{AllocError, Global};
 
 /// A session of a script, with its grant while one is out.
 #[derive(Debug)]
@@ -43,65 +41,35 @@ impl Drop for Held {
 }
 
 impl Held {
-    /// `ask S FLOOR`, and what it prints.
-    pub fn ask(
-        &mut self,
-        alloc: Global,
-        desk: &mut Desk,
-        at: Moment,
-        floor: u64,
-    ) -> Result<String, AllocError>
+    /// Submits a query, and answers what the reply prints.
+    pub fn ask(&mut self, desk: &mut Desk, at: Moment, floor: u64) -> Reply
         requires { IsHeld (desk_known desk.old) self.old }
-        ensures call { CallsOnce (desk_known desk.old) (desk_known desk.new) at (Event.Submit self.old.session.number floor)
-            (λ reply. IfOk result (λ text. string_bytes text ≡ queued_text self.old.name reply)) }
+        ensures call { CallsOnce (desk_known desk.old) (desk_known desk.new) at (Event.Submit self.old.session.number floor) (PrintsAs result) }
         ensures held { IsHeld (desk_known desk.new) self.new }
         ensures named { named self.new ≡ named self.old }
     {
         let told = self.session.submit(desk, at, floor);
-        let text = queued_text(alloc, self.name, &told);
+        let reply = printed(&told);
         self.keep(told);
-        text
+        reply
     }
 
-    /// `poll S`, and what it prints.
-    pub fn poll(
-        &mut self,
-        alloc: Global,
-        desk: &mut Desk,
-        at: Moment,
-    ) -> Result<String, AllocError>
+    /// Asks for the query, and answers what the reply prints.
+    pub fn poll(&mut self, desk: &mut Desk, at: Moment) -> Reply
         requires { IsHeld (desk_known desk.old) self.old }
-        ensures call { CallsOnce (desk_known desk.old) (desk_known desk.new) at (Event.Poll self.old.session.number)
-            (λ reply. IfOk result (λ text. string_bytes text ≡ line_text self.old.name reply)) }
+        ensures call { CallsOnce (desk_known desk.old) (desk_known desk.new) at (Event.Poll self.old.session.number) (PrintsAs result) }
         ensures held { IsHeld (desk_known desk.new) self.new }
         ensures named { named self.new ≡ named self.old }
     {
         let grant = self.grant.take();
         let told = self.session.poll(desk, at, grant);
-        let text = told_text(alloc, self.name, &told);
+        let reply = printed(&told);
         self.keep(told);
-        text
+        reply
     }
 
-    /// `done S`, and what it prints. Where no grant is out, the event goes to the machine itself.
-    pub fn finish(
-        &mut self,
-        alloc: Global,
-        desk: &mut Desk,
-        at: Moment,
-    ) -> Result<String, AllocError>
-        requires { IsHeld (desk_known desk.old) self.old }
-        ensures call { CallsOnce (desk_known desk.old) (desk_known desk.new) at (Event.Finish self.old.session.number)
-            (λ reply. IfOk result (λ text. string_bytes text ≡ line_text self.old.name reply)) }
-        ensures held { IsHeld (desk_known desk.new) self.new }
-        ensures named { named self.new ≡ named self.old }
-    {
-        let reply = self.finished(desk, at);
-        line_text(alloc, self.name, reply)
-    }
-
-    /// The reply to `done S`.
-    fn finished(&mut self, desk: &mut Desk, at: Moment) -> Reply
+    /// Ends the query. Where no grant is out, the event goes to the machine itself.
+    pub fn finish(&mut self, desk: &mut Desk, at: Moment) -> Reply
         requires { IsHeld (desk_known desk.old) self.old }
         ensures call { CallsOnce (desk_known desk.old) (desk_known desk.new) at (Event.Finish self.old.session.number) (λ reply. reply ≡ result) }
         ensures held { IsHeld (desk_known desk.new) self.new }
@@ -118,7 +86,8 @@ impl Held {
         }
     }
 
-    /// `close S`. The session comes back where that is refused. While a grant is out, the event goes to the machine itself.
+    /// Closes the session, which comes back where that is refused. While a grant is out, the event goes to the machine
+    /// itself.
     pub fn close(self, desk: &mut Desk, at: Moment) -> Result<(), (Held, Refusal)>
         requires { IsHeld (desk_known desk.old) self }
         ensures call { CallsOnce (desk_known desk.old) (desk_known desk.new) at (Event.Close self.session.number) (λ reply. reply ≡ closing_reply result) }
@@ -174,9 +143,30 @@ impl Held {
     }
 }
 
+/// The reply that told this, but for the number of the query, which is not printed.
+fn printed(told: &Submitted) -> Reply
+    ensures { result ≡ printed told.now }
+{
+    match told {
+        Submitted::Admitted(grant, account) => Reply::Admitted {
+            query: 0,
+            pool: account.pool,
+            grant: grant.bytes(),
+            own: account.own,
+            borrowed: account.borrowed,
+        },
+        Submitted::Waiting(place) => Reply::Waiting {
+            query: 0,
+            place: *place,
+        },
+        Submitted::Ended(end) => Reply::Ended(*end),
+        Submitted::Refused(refusal) => Reply::Refused(*refusal),
+    }
+}
+
 /// The place of the session that has this name.
 pub fn place_of(held: &[Held], name: Name) -> Option<usize>
-    ensures place { result ≡ place_named held.now name }
+    ensures place { result ≡ position (λ h. same_name h.name name) held.now }
     ensures within { IfSome result (λ place. place < length held.now) }
 {
     held.iter().position(|h| h.name.same(name))
@@ -184,7 +174,7 @@ pub fn place_of(held: &[Held], name: Name) -> Option<usize>
 
 /// Whether a session has this name.
 pub fn is_used(held: &[Held], name: Name) -> bool
-    ensures { result ≡ is_used (names_of held.now) name }
+    ensures { result ≡ list_any (λ h. same_name h.name name) held.now }
 {
     held.iter().any(|h| h.name.same(name))
 }

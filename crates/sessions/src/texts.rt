@@ -1,12 +1,8 @@
 //! What a script prints.
 
-ghost use Rattle.std.specs.Prelude.{◌≡◌, ℕ, Some, IfOk, string_bytes};
-ghost use Rattle.rm_base.specs.declared.reply.Reply.{Reply};
-ghost use Rattle.sessions.specs.Session.{IsTold};
+ghost use Rattle.std.specs.Prelude.{◌≡◌, Some, IfOk, string_bytes};
 ghost use Rattle.sessions.specs.Texts.{end_text, reply_text, line_text, queued_text, chosen_text, bare_text, bad_text};
 
-use crate::submitted::Submitted;
-use rm_base::entry::Account;
 use rm_base::name::Name;
 use rm_base::reply::{End, Reply};
 use std::alloc::{AllocError, Global};
@@ -73,35 +69,13 @@ pub fn line_text(alloc: Global, session: Name, reply: Reply) -> Result<String, A
     format!(in alloc; "{session} {reply}\n")
 }
 
-/// The line of what a session is told of its query.
-pub fn told_text(alloc: Global, session: Name, told: &Submitted) -> Result<String, AllocError>
-    ensures { IfOk result (λ text. (number : ℕ) (reply : Reply) → IsTold number told.now reply → string_bytes text ≡ line_text session reply) }
+/// The line of a reply to Submit.
+pub fn queued_text(alloc: Global, session: Name, reply: Reply) -> Result<String, AllocError>
+    ensures { IfOk result (λ text. string_bytes text ≡ queued_text session reply) }
 {
-    match told {
-        Submitted::Admitted(grant, account) => {
-            let bytes = grant.bytes();
-            let Account {
-                pool,
-                own,
-                borrowed,
-            } = *account;
-            format!(in alloc; "{session} admitted {bytes} {pool} {own} {borrowed}\n")
-        }
-        Submitted::Waiting(place) => format!(in alloc; "{session} waiting {place}\n"),
-        Submitted::Ended(end) => line_text(alloc, session, Reply::Ended(*end)),
-        Submitted::Refused(refusal) => line_text(alloc, session, Reply::Refused(*refusal)),
-    }
-}
-
-/// The line of what a session is told of a query that it has just submitted.
-pub fn queued_text(alloc: Global, session: Name, told: &Submitted) -> Result<String, AllocError>
-    ensures { IfOk result (λ text. (number : ℕ) (reply : Reply) → IsTold number told.now reply → string_bytes text ≡ queued_text session reply) }
-{
-    match told {
-        Submitted::Waiting(place) => format!(in alloc; "{session} queued {place}\n"),
-        Submitted::Admitted(..) | Submitted::Ended(_) | Submitted::Refused(_) => {
-            told_text(alloc, session, told)
-        }
+    match reply {
+        Reply::Waiting { query: _, place } => format!(in alloc; "{session} queued {place}\n"),
+        _ => line_text(alloc, session, reply),
     }
 }
 
