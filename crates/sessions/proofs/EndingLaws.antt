@@ -1,5 +1,5 @@
 -- How a session is opened, and how it is closed.
-use Rattle.std.proofs.Common.{◌≡◌, ◌≢◌, ℕ, ◌+◌, ◌≤◌, Bool, true, false, ◌||◌, cond, eqb, leb, List, [], ◌∷◌, ◌++◌, Option, Some, None, Result, Ok, Err, refl, sym, ap, ◌∙◌, subst, arith, count_by}
+use Rattle.std.proofs.Common.{◌≡◌, ℕ, ◌+◌, Bool, true, false, ◌||◌, cond, eqb, leb, List, [], ◌∷◌, ◌++◌, Option, Some, None, refl, sym, ap, ◌∙◌, subst, arith, count_by}
 use Rattle.std.specs.Prelude.{option_map}
 use Rattle.std.specs.List.{list_all}
 use Rattle.std.proofs.lemmas.Bool.{eqb-true, eq-eqb, leb-true, false≢true}
@@ -15,12 +15,12 @@ use Rattle.rm_rules.specs.declared.state.Phase.{Phase}
 use Rattle.rm_rules.specs.declared.state.Phase.TheVariants as phase
 use Rattle.rm_rules.specs.declared.state.Runner.{Runner}
 use Rattle.rm_rules.specs.declared.state.Session.{Session}
-use Rattle.rm_rules.specs.State.{State, session_called, session_of, phase_of, with_phase, without_session, is_running}
+use Rattle.rm_rules.specs.State.{State, session_called, session_of, with_phase, without_session, is_running}
 use Rattle.rm_rules.specs.Settle.{settled}
 use Rattle.rm_rules.specs.Refusals.{refused_if, unless_refused}
-use Rattle.rm_rules.specs.Change.{Change, quiet, new_session, runner_of, closed, closing, change, tried}
+use Rattle.rm_rules.specs.Change.{Change, quiet, new_session, runner_of, closed, closing, tried}
 use Rattle.rm_rules.specs.Answers.{reply_of, answered}
-use Rattle.rm_rules.specs.Step.{Outcome, entered, has_due, found_at, attempted, step}
+use Rattle.rm_rules.specs.Step.{entered, has_due, found_at, attempted, step}
 use Rattle.rm_rules.specs.Grants.{Run, run_of, run_by}
 use Rattle.rm_rules.specs.Healthy.{AreInPhase, AreOpened, IsHealthy, one_if}
 use Rattle.rm_rules.proofs.Taken.{and_left, and_right, or_right_false, found_counted}
@@ -28,7 +28,7 @@ use Rattle.rm_rules.proofs.Found.{none-left}
 use Rattle.rm_rules.proofs.Phases.{has_number, phased, called-with_same, called-with_other, phase_of-found}
 use Rattle.rm_rules.proofs.Settling.{settled-keeps}
 use Rattle.rm_rules.proofs.Grants.{less-found}
-use Rattle.rm_rules.proofs.Changing.{IsTried, stays, changes, refuses, defines, opens, chooses, submits, collects, finishes, closes, session_of-is, tried-is}
+use Rattle.rm_rules.proofs.Changing.{IsTried, stays, changes, refuses, opens, session_of-is, tried-is}
 use Rattle.rm_rules.proofs.Stepping.{found-facts, outcome-turn}
 use Rattle.rm_rules.proofs.Runs.{run-found, runs-open, owned-opened, owned-found_at, runs-on}
 use Rattle.sessions.specs.Session.{IsOpen, HasQuery}

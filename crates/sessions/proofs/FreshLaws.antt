@@ -1,11 +1,10 @@
 -- The number of a session that is opened is no other open session's.
-use Rattle.std.proofs.Common.{◌≡◌, ◌≢◌, ℕ, ◌+◌, ◌≤◌, Bool, true, ◌||◌, leb, Some, refl, sym, ap, subst, arith}
-use Rattle.std.proofs.lemmas.Bool.{leb-true, false≢true}
+use Rattle.std.proofs.Common.{◌≡◌, ◌≢◌, ℕ, ◌+◌, ◌≤◌, false, ◌||◌, leb, List, [], ◌∷◌, ◌++◌, None, refl, sym, arith}
+use Rattle.std.proofs.lemmas.Bool.{leb-true}
 use Rattle.rm_base.specs.declared.entry.Answered.{Answered}
 use Rattle.rm_base.specs.declared.event.Event.{Event}
 use Rattle.rm_base.specs.declared.event.Event.TheVariants.{Open}
 use Rattle.rm_base.specs.declared.name.Name.{Name}
-use Rattle.rm_base.specs.declared.reply.Reply.{Reply}
 use Rattle.rm_base.specs.declared.reply.Reply.TheVariants as reply
 use Rattle.rm_rules.specs.State.{State}
 use Rattle.rm_rules.specs.Settle.{settled}
@@ -17,8 +16,12 @@ use Rattle.rm_rules.proofs.Taken.{all_found}
 use Rattle.rm_rules.proofs.Phases.{has_number}
 use Rattle.rm_rules.proofs.Changing.{IsTried, stays, changes, refuses, opens, session_of-is, tried-is}
 use Rattle.rm_rules.proofs.Stepping.{found-facts, outcome-turn}
+use Rattle.sessions.specs.declared.held.Held.{Held}
+use Rattle.sessions.specs.Held.{AreHeld}
 use Rattle.sessions.specs.Host.{Known, state_of, Called}
 use Rattle.sessions.specs.Session.{IsOpen, SeesOpen}
+use Rattle.sessions.proofs.HeldLaws.{all-go_on, more-held, open-apart}
+use Rattle.sessions.proofs.HoldingLaws.{without-grant}
 use Rattle.sessions.proofs.HostLaws.{sees-healthy}
 use Rattle.sessions.proofs.OpenLaws.{there-open, open-there, there-found}
 use Rattle.sessions.proofs.SessionLaws.{called-turn, open-sees}
@@ -51,3 +54,10 @@ pub opened-fresh : (old new : Known) (at n m : ℕ) (user : Name) (answered : An
 opened-fresh old new at n m user answered h =
     called-turn (λ seat s r. r ≡ reply.Opened m → SeesOpen old n → n ≢ m) old new at (Open user) answered h
     (λ r was. opened-new (state_of h.found) h.found.seat at n m user (sees-healthy old h.found h.sees) (open-sees old h.found n h.sees was) r)
+
+-- so a session that was opened can be held with all before it
+pub opened-held : (old new : Known) (at : ℕ) (user : Name) (answered : Answered) (hs : List Held) (g : Held) → Called old new at (Open user) answered → answered.reply ≡ reply.Opened g.session.number
+    → SeesOpen new g.session.number → g.session.granted ≡ false → g.grant ≡ None → AreHeld old hs → AreHeld new (hs ++ g ∷ [])
+opened-held old new at user answered hs g called answer opened granted free are =
+    more-held new hs g (all-go_on old new at (Open user) answered hs called tt refl are) (without-grant new g free granted opened)
+    (open-apart old g.session.number hs (λ n was. opened-fresh old new at n g.session.number user answered called answer was) are)

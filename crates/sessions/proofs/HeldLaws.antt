@@ -1,5 +1,5 @@
 -- What calls leave of the sessions that a script holds, and how their names find them.
-use Rattle.std.proofs.Common.{◌≡◌, ◌≢◌, ◌<◌, ℕ, ◌+◌, suc, Bool, true, false, not, ◌||◌, cond, nat_lt, List, [], ◌∷◌, ◌++◌, length, get_or, set, take, drop, remove, map, find, position, Option, Some, None, refl, sym, ap, ◌∙◌, subst, arith}
+use Rattle.std.proofs.Common.{◌≡◌, ◌≢◌, ◌<◌, ℕ, ◌+◌, suc, Bool, true, not, ◌||◌, cond, nat_lt, List, [], ◌∷◌, ◌++◌, length, get_or, set, take, drop, remove, map, find, position, Some, None, refl, sym, ap, ◌∙◌, subst, arith}
 use Rattle.std.specs.Prelude.{option_map}
 use Rattle.std.specs.List.{list_any, prefix_len, position_or_len}
 
@@ -185,3 +185,9 @@ pub placed-held : (old new : Known) (at : ℕ) (event : Event) (answered : Answe
     → Called old new at event answered → IsFormed event → EndsAtMost x.session.number event → named g ≡ named x → IsHeld new g → AreHeld old hs → AreHeld new (set hs place g)
 placed-held old new at event answered hs place x g within there called formed other same is are =
     set-held old new at event answered hs place x g within called formed (subst (λ (y : Held). EndsAtMost y.session.number event) there other) (same ∙ ap named there) is are
+
+pub removed-held : (old new : Known) (at : ℕ) (event : Event) (answered : Answered) (hs : List Held) (place : ℕ) (x : Held) → place < length hs → x ≡ get_or hs place x → Called old new at event answered
+    → IsFormed event → EndsAtMost x.session.number event → AreHeld old hs → AreHeld new (remove hs place)
+removed-held old new at event answered hs place x within there called formed other are =
+    let ends = subst (λ (y : Held). EndsAtMost y.session.number event) there other in
+    gone-held old new at event answered (take place hs) (drop (suc place) hs) (get_or hs place x) called formed ends (subst (AreHeld old) (parted hs place x within) are)

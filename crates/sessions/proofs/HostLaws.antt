@@ -1,11 +1,10 @@
 -- What the calls of a host leave of the state that it has seen.
-use Rattle.std.proofs.Common.{◌≡◌, ◌≢◌, ℕ, Bool, true, false, cond, eqb, List, [], ◌∷◌, ◌++◌, length, append-nil, refl, sym, ap, ◌∙◌, subst}
+use Rattle.std.proofs.Common.{◌≡◌, ℕ, true, [], ◌++◌, length, append-nil, refl, sym, ap, ◌∙◌, subst}
 use Rattle.rm_base.specs.declared.entry.Answered.{Answered}
-use Rattle.rm_base.specs.declared.entry.Entry.{Entry}
 use Rattle.rm_base.specs.declared.event.Event.{Event}
 use Rattle.rm_rules.specs.State.{State, start}
 use Rattle.rm_rules.specs.Step.{step, made}
-use Rattle.rm_rules.specs.Replay.{replay, IsFormed, IsLegal, own_entries}
+use Rattle.rm_rules.specs.Replay.{replay, IsFormed, IsLegal}
 use Rattle.rm_rules.specs.Sound.{IsSound}
 use Rattle.rm_rules.specs.Healthy.{IsHealthy}
 use Rattle.rm_rules.proofs.Laws.{IsKeptByOthers, others-keep, healthy-start, healthy-replay, journal-step, replay-append, legal-parts, legal-more, replay-more}

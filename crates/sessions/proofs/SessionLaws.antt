@@ -1,5 +1,5 @@
 -- What a call of a session is answered, and what it leaves of the sessions of its host.
-use Rattle.std.proofs.Common.{◌≡◌, ◌≢◌, ℕ, Bool, true, false, Some, None, refl, sym, ap, ◌∙◌, subst}
+use Rattle.std.proofs.Common.{◌≡◌, ◌≢◌, ℕ, true, Some, sym, ap, subst}
 use Rattle.rm_base.specs.declared.entry.Answered.{Answered}
 use Rattle.rm_base.specs.declared.event.Event.{Event}
 use Rattle.rm_base.specs.declared.event.Event.TheVariants.{Open, Poll, Finish, Close}
@@ -17,7 +17,7 @@ use Rattle.sessions.specs.declared.submitted.Submitted.TheVariants.{Admitted, Wa
 use Rattle.sessions.specs.Granted.{Granted}
 use Rattle.sessions.specs.Host.{Known, state_of, outcome_at, SeesMore, Called}
 use Rattle.sessions.specs.Session.{IsOpen, IsRunning, HasQuery, SeesOpen, SeesRunning, HoldsGrant, IsTold, IfAdmitted, TellsQuery}
-use Rattle.sessions.proofs.HostLaws.{sees-healthy, sees-keeps, sees-seat, called-state, called-seat, called-keeps}
+use Rattle.sessions.proofs.HostLaws.{sees-healthy, sees-keeps, sees-seat, called-state, called-keeps}
 use Rattle.sessions.proofs.OpenLaws.{open-others, open-step}
 use Rattle.sessions.proofs.ToldLaws.{asks, asking-tells, IsGiven, poll-given}
 use Rattle.sessions.proofs.EndingLaws.{AnswersOpen, open-answers, AnswersClose, close-answers}

@@ -1,5 +1,5 @@
 -- What a session is told of its query.
-use Rattle.std.proofs.Common.{◌≡◌, ◌≢◌, ℕ, Bool, true, false, ◌||◌, cond, List, Option, Some, None, Result, Ok, Err, refl, sym, ap, ◌∙◌, subst}
+use Rattle.std.proofs.Common.{◌≡◌, ℕ, Bool, true, false, ◌||◌, Option, Some, None, Result, Ok, Err, refl, sym, ap, ◌∙◌, subst}
 use Rattle.std.proofs.lemmas.Bool.{false≢true}
 use Rattle.rm_base.specs.declared.event.Event.{Event}
 use Rattle.rm_base.specs.declared.event.Event.TheVariants.{Define, Open, SetPool, Submit, Poll, Finish, Close}
@@ -19,7 +19,7 @@ use Rattle.rm_rules.specs.Settle.{settled}
 use Rattle.rm_rules.specs.Refusals.{refused_if, unless_refused}
 use Rattle.rm_rules.specs.Change.{Change, quiet, runner_of, polled, polling, change, tried}
 use Rattle.rm_rules.specs.Answers.{told, told_in_phase, told_running, told_waiting, waiter_of, reply_of}
-use Rattle.rm_rules.specs.Step.{Outcome, entered, quietly, has_due, found_at, attempted, step}
+use Rattle.rm_rules.specs.Step.{entered, has_due, found_at, attempted, step}
 use Rattle.rm_rules.specs.Grants.{Run, run_of, run_by}
 use Rattle.rm_rules.specs.Healthy.{AreInPhase, IsHealthy}
 use Rattle.rm_rules.proofs.Grants.{less-found}

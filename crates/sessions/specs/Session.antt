@@ -1,5 +1,5 @@
 -- What a session is to its host, and what it is answered.
-use Rattle.std.specs.Prelude.{◌≡◌, ◌≢◌, ℕ, Bool, true, false, Some, Result, Ok, Err}
+use Rattle.std.specs.Prelude.{◌≡◌, ℕ, Bool, true, false, Some, Result, Ok, Err}
 use Rattle.rm_base.specs.declared.entry.Account.{Account}
 use Rattle.rm_base.specs.declared.entry.Answered.{Answered}
 use Rattle.rm_base.specs.declared.name.Name.{Name}

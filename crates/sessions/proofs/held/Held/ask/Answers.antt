@@ -1,4 +1,4 @@
-use Rattle.std.proofs.Common.{◌≡◌, sym, subst}
+use Rattle.std.proofs.Common.{sym, subst}
 use Rattle.rm_base.specs.declared.event.Event.TheVariants.{Submit}
 use Rattle.sessions.specs.declared.held.Held.{Held}
 use Rattle.sessions.specs.Granted.{SessionState}

@@ -1,4 +1,4 @@
-use Rattle.std.proofs.Common.{◌≡◌, ℕ, refl, ap, sym, ◌∙◌, subst, None}
+use Rattle.std.proofs.Common.{ℕ, refl, ap, sym, ◌∙◌, subst, None}
 use Rattle.std.specs.Prelude.{is_some}
 use Rattle.rm_base.specs.declared.event.Event.TheVariants.{Close}
 use Rattle.sessions.specs.declared.held.Held.{Held}

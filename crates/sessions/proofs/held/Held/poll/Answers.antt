@@ -1,4 +1,4 @@
-use Rattle.std.proofs.Common.{◌≡◌, Option, sym, ◌∙◌, subst}
+use Rattle.std.proofs.Common.{Option, sym, ◌∙◌, subst}
 use Rattle.rm_base.specs.declared.event.Event.TheVariants.{Poll}
 use Rattle.sessions.specs.declared.held.Held.{Held}
 use Rattle.sessions.specs.Granted.{Granted, SessionState}

@@ -1,4 +1,4 @@
-use Rattle.std.proofs.Common.{◌≡◌, refl}
+use Rattle.std.proofs.Common.{refl}
 use Rattle.sessions.specs.Host.{desk_known}
 use Rattle.sessions.proofs.HeldLaws.{all-go_on}
 use Rattle.sessions.proofs.TurnLemmas.{stepped-state, stepped-reply}

@@ -1,4 +1,14 @@
+use Rattle.std.proofs.Common.{Bool, ap, sym, ◌∙◌}
+use Rattle.std.specs.Prelude.{option_map}
+use Rattle.rm_base.specs.Name.{same_name}
+use Rattle.rm_rules.proofs.Places.{find-absent}
+use Rattle.sessions.specs.Commands.{seen_request}
+use Rattle.sessions.specs.SessionNames.{Named}
+use Rattle.sessions.specs.Turns.{session_turn}
 use Rattle.sessions.proofs.script.Script.take_request.Goals as goal
 
 pub returns-in_default : goal.returns-in_default
-returns-in_default c = ?
+returns-in_default c =
+    let test : Named → Bool = λ n. same_name n.name c.args.session in
+    let absent = find-absent test c.args.self.now.names (sym c.place_of.ensures ∙ c.in_default.is) in
+    ap (session_turn c.args.self.now c.args.session (seen_request c.args.request)) (sym (ap (option_map (λ (n : Named). n.session)) absent))
