@@ -1,5 +1,5 @@
 //! The state of the pool machine in memory, and what an event does to it.
-ghost use Rattle.std.specs.Prelude.{◌≡◌, ◌<◌, ◌≤◌, ◌+◌, true, false, map, length, IfOk};
+ghost use Rattle.std.specs.Prelude.{◌≡◌, ◌<◌, ◌≤◌, ◌+◌, true, false, [], map, length, vec_capacity, IfOk};
 ghost use Rattle.rm_base.specs.declared.limits.TheConstants.{POOLS_MOST, CHANGES_MOST, ENTRIES_BEYOND};
 ghost use Rattle.rm_rules.specs.State.{none_ended, is_defined};
 
@@ -67,6 +67,34 @@ impl Model for Machine {
     ghost invariant = { IsTied };
 }
 
+/// What a machine has of sessions, queries and their history. Nobody is there at the start.
+#[derive(Drop)]
+struct Lists {
+    sessions: Sessions,
+    running: Runners,
+    waiting: Queue,
+    moves: Moves,
+    journal: Vec<Entry>,
+}
+
+/// The lists at the start, with room for so many entries.
+fn empty_lists(alloc: Global, entries: usize) -> Result<Lists, AllocError>
+    ensures sessions { IfOk result (λ lists. lists.sessions ≡ []) }
+    ensures running { IfOk result (λ lists. lists.running ≡ []) }
+    ensures waiting { IfOk result (λ lists. lists.waiting ≡ []) }
+    ensures moves { IfOk result (λ lists. lists.moves ≡ []) }
+    ensures journal { IfOk result (λ lists. lists.journal.items ≡ []) }
+    ensures room { IfOk result (λ lists. entries ≤ vec_capacity lists.journal) }
+{
+    Ok(Lists {
+        sessions: Sessions::new(alloc)?,
+        running: Runners::new(alloc)?,
+        waiting: Queue::new(alloc)?,
+        moves: Moves::new(alloc)?,
+        journal: Vec::with_capacity(alloc, entries)?,
+    })
+}
+
 /// No ended query for each pool.
 fn first_counters(alloc: Global, pools: &[PoolRow]) -> Result<Counters, AllocError>
     requires { length pools.now ≤ POOLS_MOST }
@@ -104,18 +132,19 @@ impl Machine {
         let entries = room as usize + ENTRIES_BEYOND + CHANGES_MOST as usize;
         let accounts = Accounts::new(alloc, &definitions)?;
         let counters = first_counters(alloc, definitions.pools.rows())?;
+        let lists = empty_lists(alloc, entries)?;
         Ok(Machine {
             definitions,
             accounts,
-            sessions: Sessions::new(alloc)?,
-            running: Runners::new(alloc)?,
-            waiting: Queue::new(alloc)?,
+            sessions: lists.sessions,
+            running: lists.running,
+            waiting: lists.waiting,
             clock: Moment::of(0),
             counters,
-            moves: Moves::new(alloc)?,
+            moves: lists.moves,
             last_session: 0,
             last_query: 0,
-            journal: Vec::with_capacity(alloc, entries)?,
+            journal: lists.journal,
             room,
             counted: 0,
         })

@@ -124,7 +124,6 @@ impl Machine {
         ensures { IfOk result (λ snapshot. snapshot ≡ snapshot_of self.now) }
     {
         Ok(Snapshot {
-            definitions: self.definitions.copy(alloc)?,
             in_force: self.accounts.in_force(),
             actual: Listed::of(sizes_seen(alloc, self.accounts.reserves())?),
             sessions: Listed::of(self.sessions_seen(alloc)?),
@@ -132,6 +131,7 @@ impl Machine {
             waiting: Listed::of(queue_seen(alloc, self.waiting.waiters())?),
             counters: Listed::of(counters_seen(alloc, self.counters.rows())?),
             moves: Listed::of(moves_seen(alloc, self.moves.rows())?),
+            definitions: self.definitions.copy(alloc)?,
         })
     }
 }
