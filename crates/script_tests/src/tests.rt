@@ -18,6 +18,7 @@ mod limits;
 mod lines;
 mod options;
 mod queue;
+mod session_calls;
 mod statements;
 mod users;
 

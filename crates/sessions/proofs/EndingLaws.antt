@@ -2,6 +2,7 @@
 use Rattle.std.proofs.Common.{◌≡◌, ℕ, ◌+◌, Bool, true, false, ◌||◌, cond, eqb, leb, List, [], ◌∷◌, ◌++◌, Option, Some, None, refl, sym, ap, ◌∙◌, subst, arith, count_by}
 use Rattle.std.specs.Prelude.{option_map}
 use Rattle.std.specs.List.{list_all}
+use Rattle.std.specs.Option.{is_some}
 use Rattle.std.proofs.lemmas.Bool.{eqb-true, eq-eqb, leb-true, false≢true}
 use Rattle.rm_base.specs.declared.event.Event.{Event}
 use Rattle.rm_base.specs.declared.event.Event.TheVariants.{Open, Close}
@@ -32,7 +33,7 @@ use Rattle.rm_rules.proofs.Changing.{IsTried, stays, changes, refuses, opens, se
 use Rattle.rm_rules.proofs.Stepping.{found-facts, outcome-turn}
 use Rattle.rm_rules.proofs.Runs.{run-found, runs-open, owned-opened, owned-found_at, runs-on}
 use Rattle.sessions.specs.Session.{IsOpen, HasQuery}
-use Rattle.sessions.proofs.OpenLaws.{IsThere, there-open, open-there, there-found, there-settled}
+use Rattle.sessions.proofs.OpenLaws.{IsThere, there-of, there-open, some-of, open-there, there-found, there-settled}
 use Rattle.sessions.proofs.ToldLaws.{done_for}
 
 -- a number that was not given yet finds the session that gets it
@@ -131,7 +132,7 @@ closed-answers s seat at n healthy there none =
     let t = found_at s at in
     let event : Event = Close n in
     let facts = found-facts s at healthy in
-    let there_open = there-open t seat n (there-found n seat s at there) in
+    let there_open = there-of t seat n (there-found n seat s at there) in
     let x = there_open.0 in
     let is = session_of-is t seat n x there_open.1 in
     let rests = rests-turn t n x (is_running x.phase) facts.in_phase is.called (ap (λ l. runner_of l n) (less-found s at).running ∙ none) refl in
@@ -144,19 +145,19 @@ closed-answers s seat at n healthy there none =
     (λ still. absurd (false≢true (sym (or_right_false (has_due s at) c.changed still) ∙ ap (λ (d : Change). d.changed) closes_it)))
 
 pub close-answers : (s : State) (seat at n : ℕ) → IsHealthy s → IsOpen s seat n → AnswersClose seat n (step s seat at (Close n)).state (step s seat at (Close n)).reply
-close-answers s seat at n healthy (x, found) = turn (runner_of s.running n) refl where
+close-answers s seat at n healthy h = turn (runner_of s.running n) refl where
   turn : (o : Option Runner) → runner_of s.running n ≡ o → AnswersClose seat n (step s seat at (Close n)).state (step s seat at (Close n)).reply
-  turn None none = closed-answers s seat at n healthy (open-there s seat n (x, found)) none
-  turn (Some r) runs = busy-answers s seat at n x r healthy found runs
+  turn None none = closed-answers s seat at n healthy (open-there s seat n h) none
+  turn (Some r) runs = let found = some-of (session_of s seat n) h in busy-answers s seat at n found.0 r healthy found.1 runs
 
 pub close-other : (seat n : ℕ) (s : State) (r : Reply) → AnswersClose seat n s r → (r ≡ reply.Closed → ⊥) → ((x : Refusal) → r ≡ reply.Refused x → ⊥) → ⊥
 close-other seat n s _ (Closes gone) not_closed not_refused = not_closed refl
 close-other seat n s _ (Runs run is) not_closed not_refused = not_refused refusal.SessionBusy refl
 
 pub close-closed : (seat n : ℕ) (s : State) (r : Reply) → AnswersClose seat n s r → r ≡ reply.Closed → IsOpen s seat n → ⊥
-close-closed seat n s _ (Closes gone) is (x, found) = let both : None ≡ Some x = sym gone ∙ (session_of-is s seat n x found).called in cc
+close-closed seat n s _ (Closes gone) is h = let there = open-there s seat n h in let both : None ≡ Some there.0 = sym gone ∙ there.1 in cc
 close-closed seat n s _ (Runs run runs) is there_open = cc
 
 pub close-refused : (seat n : ℕ) (s : State) (r : Reply) (x : Refusal) → AnswersClose seat n s r → r ≡ reply.Refused x → (x ≡ refusal.SessionBusy) × HasQuery s seat n
 close-refused seat n s _ x (Closes gone) is = absurd (cc)
-close-refused seat n s _ x (Runs run runs) is = (let same : refusal.SessionBusy ≡ x = cc in sym same, (run, runs))
+close-refused seat n s _ x (Runs run runs) is = (let same : refusal.SessionBusy ≡ x = cc in sym same, ap is_some runs)

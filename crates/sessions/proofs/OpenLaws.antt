@@ -1,6 +1,7 @@
 -- A session stays open until its own seat closes it.
 use Rattle.std.proofs.Common.{◌≡◌, ◌≢◌, ◌⊎◌, ℕ, Bool, true, false, ◌||◌, cond, eqb, List, Option, Some, None, inl, inr, refl, sym, ap, ◌∙◌}
-use Rattle.std.specs.Prelude.{option_map, option_and_then}
+use Rattle.std.specs.Prelude.{option_map, option_and_then, IsSome}
+use Rattle.std.specs.Option.{is_some}
 use Rattle.std.proofs.lemmas.Bool.{eqb-true, eq-eqb, false≢true}
 use Rattle.rm_base.specs.declared.event.Event.{Event}
 use Rattle.rm_base.specs.declared.event.Event.TheVariants.{Close}
@@ -29,12 +30,23 @@ use Rattle.sessions.specs.Session.{IsOpen}
 abbrev pub IsThere : ℕ → ℕ → List Session → Type 0
 IsThere n seat sessions = (x : Session) × (session_called sessions n ≡ Some x) × (x.seat ≡ seat)
 
-pub there-open : (s : State) (seat n : ℕ) → IsThere n seat s.sessions → IsOpen s seat n
-there-open s seat n (x, called, of_seat) =
+pub there-of : (s : State) (seat n : ℕ) → IsThere n seat s.sessions → (x : Session) × (session_of s seat n ≡ Some x)
+there-of s seat n (x, called, of_seat) =
     (x, ap (option_and_then (if_opened_by seat)) called ∙ ap (λ b. cond b (Some x) None) (eq-eqb x.seat seat of_seat))
 
+pub there-open : (s : State) (seat n : ℕ) → IsThere n seat s.sessions → IsOpen s seat n
+there-open s seat n there = ap is_some (there-of s seat n there).1
+
+-- what there is, where there is something
+pub some-of : {A : Type 0} (o : Option A) → IsSome o → (x : A) × (o ≡ Some x)
+some-of None h = absurd (false≢true h)
+some-of (Some x) h = (x, refl)
+
 pub open-there : (s : State) (seat n : ℕ) → IsOpen s seat n → IsThere n seat s.sessions
-open-there s seat n (x, found) = let is = session_of-is s seat n x found in (x, is.called, is.of_seat)
+open-there s seat n h =
+    let found = some-of (session_of s seat n) h in
+    let is = session_of-is s seat n found.0 found.1 in
+    (found.0, is.called, is.of_seat)
 
 -- another phase or another choice leaves it there
 with-turn : (n seat m : ℕ) (p : Phase) (xs : List Session) (b : Bool) → eqb m n ≡ b → IsThere n seat xs → IsThere n seat (with_phase m p xs)
@@ -100,8 +112,10 @@ foreign-turn seat by n event x number of_seat (inr apart) = inr (λ same. apart 
 
 foreign-open : (s : State) (seat by at : ℕ) (event : Event) (n : ℕ) → IsHealthy s → IsFormed event → (session_in event ≢ Some n) ⊎ (by ≢ seat) → IsOpen s seat n
     → IsOpen (step s by at event).state seat n
-foreign-open s seat by at event n healthy formed apart (x, found) =
-    let is = session_of-is s seat n x found in
+foreign-open s seat by at event n healthy formed apart h =
+    let found = some-of (session_of s seat n) h in
+    let x = found.0 in
+    let is = session_of-is s seat n x found.1 in
     let new = (step s by at event).state in
     let left = foreign-step s by at event healthy formed x (ap (session_called s.sessions) is.number ∙ is.called) (foreign-turn seat by n event x is.number is.of_seat apart) in
     there-open new seat n (left.0, ap (session_called new.sessions) (sym is.number) ∙ left.1, left.2.seat ∙ is.of_seat)

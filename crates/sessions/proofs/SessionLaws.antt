@@ -1,5 +1,6 @@
 -- What a call of a session is answered, and what it leaves of the sessions of its host.
 use Rattle.std.proofs.Common.{◌≡◌, ◌≢◌, ℕ, true, Some, sym, ap, subst}
+use Rattle.std.specs.Option.{is_some}
 use Rattle.rm_base.specs.declared.entry.Answered.{Answered}
 use Rattle.rm_base.specs.declared.event.Event.{Event}
 use Rattle.rm_base.specs.declared.event.Event.TheVariants.{Open, Poll, Finish, Close}
@@ -18,7 +19,7 @@ use Rattle.sessions.specs.Granted.{Granted}
 use Rattle.sessions.specs.Host.{Known, state_of, outcome_at, SeesMore, Called}
 use Rattle.sessions.specs.Session.{IsOpen, IsRunning, HasQuery, SeesOpen, SeesRunning, HoldsGrant, IsTold, IfAdmitted, TellsQuery}
 use Rattle.sessions.proofs.HostLaws.{sees-healthy, sees-keeps, sees-seat, called-state, called-keeps}
-use Rattle.sessions.proofs.OpenLaws.{open-others, open-step}
+use Rattle.sessions.proofs.OpenLaws.{some-of, open-others, open-step}
 use Rattle.sessions.proofs.ToldLaws.{asks, asking-tells, IsGiven, poll-given}
 use Rattle.sessions.proofs.EndingLaws.{AnswersOpen, open-answers, AnswersClose, close-answers}
 
@@ -56,10 +57,10 @@ running-called old new at g event answered h formed other is =
     (λ s healthy runs. runs-on s old.seat at old.seat g.session event (run_with g) healthy formed runs (λ e. absurd (other e))) is
 
 pub query-open : (s : State) (seat n : ℕ) → HasQuery s seat n → IsOpen s seat n
-query-open s seat n (run, is) = let was = run-is s seat n run is in (was.opener, was.open_session)
+query-open s seat n h = let found = some-of (run_of s seat n) h in ap is_some (run-is s seat n found.0 found.1).open_session
 
 pub running-open : (k : Known) (g : Granted) → SeesRunning k g → SeesOpen k g.session
-running-open k g is = query-open (state_of k) k.seat g.session (run_with g, is)
+running-open k g is = query-open (state_of k) k.seat g.session (ap is_some is)
 
 -- what each call is answered
 pub open-reply : (old new : Known) (at : ℕ) (user : Name) (answered : Answered) → Called old new at (Open user) answered → AnswersOpen new.seat (state_of new).sessions answered.reply

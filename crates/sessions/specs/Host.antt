@@ -11,8 +11,8 @@ use Rattle.rm_rules.specs.Sound.{IsSound}
 use Rattle.machine.specs.Desk.{DeskState}
 use Rattle.sessions.specs.declared.host.TheConstants.{FIRST_SEAT}
 
--- what a host tells: the number of its seat, whether no other seat acts on its machine, the definitions and the room from
--- which the history begins, and the entries that it has seen
+-- What a host tells: the number of its seat, whether no other seat acts on its machine, the definitions and the room from
+-- which the history begins, and the entries that it has seen.
 pub record Known : Type 0 where
   pub seat : ℕ
   pub alone : Bool
@@ -45,8 +45,8 @@ pub record SeesMore (old new : Known) : Type 0 where
   pub sound : IsSound new.first
   pub legal : IsLegal (beginning new) new.seen
 
--- One call of an event: what the host found when the event came, and then the machine's reply, and the entry if it made
--- one.
+-- One call of an event: the host sees what others did before it, and then the event is a step of the machine, with its
+-- reply, and with its entry if it makes one.
 pub record Called (old new : Known) (at : ℕ) (event : Event) (answered : Answered) : Type 0 where
   pub found : Known
   pub sees : SeesMore old found

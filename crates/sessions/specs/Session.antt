@@ -1,5 +1,5 @@
 -- What a session is to its host, and what it is answered.
-use Rattle.std.specs.Prelude.{◌≡◌, ℕ, Bool, true, false, Some, Result, Ok, Err}
+use Rattle.std.specs.Prelude.{◌≡◌, ℕ, Bool, true, false, Some, IsSome, Result, Ok, Err}
 use Rattle.rm_base.specs.declared.entry.Account.{Account}
 use Rattle.rm_base.specs.declared.entry.Answered.{Answered}
 use Rattle.rm_base.specs.declared.name.Name.{Name}
@@ -8,8 +8,7 @@ use Rattle.rm_base.specs.declared.event.Event.{Event}
 use Rattle.rm_base.specs.declared.refusal.Refusal.{Refusal}
 use Rattle.rm_base.specs.declared.reply.Reply.{Reply}
 use Rattle.rm_base.specs.declared.reply.Reply.TheVariants as reply
-use Rattle.rm_rules.specs.declared.state.Session.{Session}
-use Rattle.rm_rules.specs.Grants.{Run, run_of}
+use Rattle.rm_rules.specs.Grants.{run_of}
 use Rattle.rm_rules.specs.State.{State, session_of}
 use Rattle.sessions.specs.declared.submitted.Submitted.{Submitted}
 use Rattle.sessions.specs.declared.submitted.Submitted.TheVariants.{Admitted, Waiting, Ended, Refused}
@@ -18,7 +17,7 @@ use Rattle.sessions.specs.Host.{Known, state_of, Called}
 
 -- the seat opened the session of this number, and it is open
 abbrev pub IsOpen : State → ℕ → ℕ → Type 0
-IsOpen s seat number = (x : Session) × (session_of s seat number ≡ Some x)
+IsOpen s seat number = IsSome (session_of s seat number)
 
 -- the seat opened the session, and the query of this grant runs in it
 abbrev pub IsRunning : State → ℕ → Granted → Type 0
@@ -26,7 +25,7 @@ IsRunning s seat grant = run_of s seat grant.session ≡ Some (record { query = 
 
 -- some query runs in the session
 abbrev pub HasQuery : State → ℕ → ℕ → Type 0
-HasQuery s seat number = (run : Run) × (run_of s seat number ≡ Some run)
+HasQuery s seat number = IsSome (run_of s seat number)
 
 -- the same in what a host has seen
 abbrev pub SeesOpen : Known → ℕ → Type 0

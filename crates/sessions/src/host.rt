@@ -39,7 +39,8 @@ impl Host for Desk {
     ghost known = { desk_known };
 
     fn call(&mut self, at: Moment, event: &Event) -> Answered {
-        let _kept = self.entries();
+        // What every desk keeps, as the history's clauses say.
+        let _entries = self.entries();
         self.apply(FIRST_SEAT, at, event)
     }
 

@@ -45,7 +45,7 @@ impl Session {
     pub fn open<H: Host>(host: &mut H, at: Moment, user: Name) -> Result<Session, Refusal>
         ensures call { CallsOnce (H.known host.old) (H.known host.new) at (Event.Open user)
             (λ reply. reply ≡ open_reply result) }
-        ensures opened { IfOk result (λ session. SeesOpen (H.known host.new) session.number) }
+        ensures open { IfOk result (λ session. SeesOpen (H.known host.new) session.number) }
         ensures free { IfOk result (λ session. session.granted ≡ false) }
     {
         match host.call(at, &Event::Open { user }).reply {
@@ -74,6 +74,7 @@ impl Session {
             (IsTold self.old.number result) }
         ensures grant { IfAdmitted result (HoldsGrant (H.known host.new) self.old.number) }
         ensures session { self.new ≡ record self.old { granted = self.old.granted || is_admitted result } }
+        ensures open { SeesOpen (H.known host.old) self.old.number → SeesOpen (H.known host.new) self.old.number }
     {
         let event = Event::Submit {
             session: self.number,
@@ -93,6 +94,7 @@ impl Session {
         ensures back { IfSome held (λ grant. ComesBack grant result) }
         ensures grant { IfAdmitted result (HoldsGrant (H.known host.new) self.old.number) }
         ensures session { self.new ≡ record self.old { granted = is_admitted result } }
+        ensures open { SeesOpen (H.known host.old) self.old.number → SeesOpen (H.known host.new) self.old.number }
     {
         let event = Event::Poll {
             session: self.number,
@@ -114,6 +116,7 @@ impl Session {
             (λ reply. reply ≡ Reply.Released result) }
         ensures bytes { result ≡ grant.bytes }
         ensures session { self.new ≡ record self.old { granted = false } }
+        ensures open { SeesOpen (H.known host.new) self.old.number }
     {
         let event = Event::Finish {
             session: self.number,
@@ -126,7 +129,7 @@ impl Session {
     /// Closes the session. It is refused with 21, and comes back, just where it has a query that was admitted unseen.
     pub fn close<H: Host>(self, host: &mut H, at: Moment) -> Result<(), (Session, Refusal)>
         requires free { self.granted ≡ false }
-        requires opened { SeesOpen (H.known host.old) self.number }
+        requires open { SeesOpen (H.known host.old) self.number }
         ensures call { CallsOnce (H.known host.old) (H.known host.new) at (Event.Close self.number)
             (λ reply. reply ≡ close_reply result) }
         ensures closed { OnOk result (SeesOpen (H.known host.new) self.number → ⊥) }

@@ -5,7 +5,7 @@ use Rattle.sessions.specs.declared.submitted.Submitted.TheVariants.{Admitted}
 use Rattle.sessions.specs.Granted.{Granted, SessionState}
 use Rattle.sessions.specs.Host.{Called}
 use Rattle.sessions.specs.Session.{ComesBack}
-use Rattle.sessions.proofs.SessionLaws.{asking-reply, told-grant, poll-reply, running-called}
+use Rattle.sessions.proofs.SessionLaws.{asking-reply, told-grant, poll-reply, open-called, running-called}
 use Rattle.sessions.proofs.session.Session.poll.Goals as goal
 
 pub told-requires : goal.told-requires
@@ -40,3 +40,9 @@ pub returns-in-None-clause-grant : goal.returns-in-None-clause-grant
 returns-in-None-clause-grant g c =
     told-grant _ _ c.args.at c.args.self.now.number _ c.call-answered.result c.told.result c.call-answered.ensures
     (ap (λ (s : SessionState). Some s.number) c.self.view_is) c.told.ensures.told
+
+pub returns-in-Some-clause-open : goal.returns-in-Some-clause-open
+returns-in-Some-clause-open g c = open-called _ _ c.args.at c.args.self.now.number _ c.call-answered.result c.call-answered.ensures tt (λ e. cc)
+
+pub returns-in-None-clause-open : goal.returns-in-None-clause-open
+returns-in-None-clause-open g c = open-called _ _ c.args.at c.args.self.now.number _ c.call-answered.result c.call-answered.ensures tt (λ e. cc)

@@ -1,6 +1,6 @@
 use Rattle.std.proofs.Common.{Some, refl, ap}
 use Rattle.sessions.specs.Granted.{SessionState}
-use Rattle.sessions.proofs.SessionLaws.{asking-reply, told-grant}
+use Rattle.sessions.proofs.SessionLaws.{asking-reply, told-grant, open-called}
 use Rattle.sessions.proofs.session.Session.submit.Goals as goal
 
 pub told-requires : goal.told-requires
@@ -10,3 +10,6 @@ pub returns-clause-grant : goal.returns-clause-grant
 returns-clause-grant g c =
     told-grant _ _ c.args.at c.args.self.now.number _ c.call-answered.result c.told.result c.call-answered.ensures
     (ap (λ (s : SessionState). Some s.number) c.self.view_is) c.told.ensures.told
+
+pub returns-clause-open : goal.returns-clause-open
+returns-clause-open g c = open-called _ _ c.args.at c.args.self.now.number _ c.call-answered.result c.call-answered.ensures tt (λ e. cc)
