@@ -4,3 +4,7 @@ pub mod Definitions
 pub mod RefusalText
 pub mod Ranges
 pub mod WellFormed
+pub mod Values
+pub mod ValueLaws
+pub mod TableSeen
+pub mod Select

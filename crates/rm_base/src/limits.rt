@@ -110,6 +110,75 @@ pub const PIECE_MOST: usize = 16_384;
 /// The longest file that is loaded, in bytes: 64 MiB.
 pub const FILE_MOST: usize = 67_108_864;
 
+/// What a Null measures, in bytes.
+pub const NULL_MEASURE: u64 = 1;
+
+/// What an Int measures, in bytes.
+pub const INT_MEASURE: u64 = 8;
+
+/// What a Text measures beside its own bytes, in bytes.
+pub const TEXT_MEASURE: u64 = 16;
+
+/// What a row measures beside its values, in bytes.
+pub const ROW_MEASURE: u64 = 16;
+
+/// How many tables a host may have.
+pub const TABLES_MOST: usize = 16;
+
+/// How many columns a table may have.
+pub const COLUMNS_MOST: usize = 16;
+
+/// How many rows a table may have.
+pub const ROWS_MOST: usize = 1_000_000;
+
+/// The greatest measure of a table, in bytes: 64 MiB.
+pub const TABLE_MOST: u64 = 67_108_864;
+
+/// The longest text of a cell, in bytes.
+pub const CELL_MOST: usize = 1_024;
+
+/// The most digits of an integer in a cell, leading zeros counted.
+pub const CELL_DIGITS_MOST: usize = 19;
+
+/// How many tables a SELECT may name.
+pub const SELECT_TABLES_MOST: usize = 3;
+
+/// How many values a row of a SELECT may have: the columns of all its tables.
+pub const ROW_VALUES_MOST: usize = 48;
+
+/// How many items a select list may have.
+pub const ITEMS_MOST: usize = 32;
+
+/// How many comparisons a SELECT may have.
+pub const TESTS_MOST: usize = 32;
+
+/// How many columns a GROUP BY may have.
+pub const GROUP_COLUMNS_MOST: usize = 16;
+
+/// How many keys an ORDER BY may have.
+pub const ORDER_KEYS_MOST: usize = 16;
+
+/// The greatest LIMIT, in rows.
+pub const LIMIT_MOST: u32 = 1_000_000;
+
+/// The greatest measure of an answer, in bytes: 16 MiB.
+pub const ANSWER_MOST: u64 = 16_777_216;
+
+/// The least memory that serves a SELECT over one table, in bytes: 1 MiB.
+pub const FLOOR_OF_ONE: u64 = 1_048_576;
+
+/// What each further table adds to that, in bytes.
+pub const FLOOR_OF_MORE: u64 = 262_144;
+
+/// One part in so many of a grant is what each kind of a query's rows may take: a quarter.
+pub const GRANT_PARTS: u64 = 4;
+
+/// What a group is charged for a COUNT or a SUM, in bytes.
+pub const COUNT_CHARGE: u64 = 16;
+
+/// What a group is charged for a MIN or a MAX, in bytes: the measure of the longest text of a cell.
+pub const BEST_CHARGE: u64 = 1_040;
+
 /// The longest file of a spool, in bytes: 2^63 - 1.
 pub const SPOOL_FILE_MOST: u64 = 9_223_372_036_854_775_807;
 

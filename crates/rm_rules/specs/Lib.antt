@@ -27,3 +27,12 @@ pub mod Healthy
 pub mod Conserved
 pub mod Grants
 pub mod Sessions
+pub mod Comparing
+pub mod Sorting
+pub mod Tuples
+pub mod Grouping
+pub mod Ordering
+pub mod Meaning
+pub mod Matching
+pub mod Stages
+pub mod AllFits
