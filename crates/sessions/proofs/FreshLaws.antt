@@ -23,7 +23,7 @@ use Rattle.sessions.specs.Session.{IsOpen, SeesOpen}
 use Rattle.sessions.proofs.HeldLaws.{all-go_on, more-held, open-apart}
 use Rattle.sessions.proofs.HoldingLaws.{without-grant}
 use Rattle.sessions.proofs.HostLaws.{sees-healthy}
-use Rattle.sessions.proofs.OpenLaws.{there-open, open-there, there-found}
+use Rattle.sessions.proofs.OpenLaws.{there-of, open-there, there-found}
 use Rattle.sessions.proofs.SessionLaws.{called-turn, open-sees}
 
 -- it is the next number
@@ -34,7 +34,7 @@ next-number s t seat _ c m (changes _ (opens user may) loud) answer = let e : s.
 given : (s : State) (seat n : ℕ) → IsHealthy s → (at : ℕ) → IsOpen s seat n → n ≤ (found_at s at).last_session
 given s seat n healthy at is =
     let t = found_at s at in
-    let there = there-open t seat n (there-found n seat s at (open-there s seat n is)) in
+    let there = there-of t seat n (there-found n seat s at (open-there s seat n is)) in
     let x = there.0 in
     let found = session_of-is t seat n x there.1 in
     let within = all_found (λ z. leb z.number t.last_session) (has_number n) t.sessions x (found-facts s at healthy).opened.given found.called in

@@ -2,7 +2,6 @@
 use Rattle.std.proofs.Common.{◌≡◌, ◌≢◌, ◌<◌, ℕ, ◌+◌, suc, Bool, true, not, ◌||◌, cond, nat_lt, List, [], ◌∷◌, ◌++◌, length, get_or, set, take, drop, remove, map, find, position, Some, None, refl, sym, ap, ◌∙◌, subst, arith}
 use Rattle.std.specs.Prelude.{option_map}
 use Rattle.std.specs.List.{list_any, prefix_len, position_or_len}
-
 use Rattle.std.proofs.Math.Seq.{drop-cons}
 use Rattle.std.proofs.lemmas.Bool.{false≢true}
 use Rattle.std.proofs.lemmas.List.{get_or-map, set_split, take-append-drop, take-map, drop-map, map-append, length-map}
@@ -42,9 +41,11 @@ unended-close event n goes same = false≢true (sym (ap ends_nothing same) ∙ g
 pub all-go_on : (old new : Known) (at : ℕ) (event : Event) (answered : Answered) (hs : List Held) → Called old new at event answered → IsFormed event → ends_nothing event ≡ true
     → AreHeld old hs → AreHeld new hs
 all-go_on old new at event answered [] called formed goes are = tt
-all-go_on old new at event answered (h ∷ hs) called formed goes are =
-    (held-goes_on old new at event answered h called formed (unended-finish event h.session.number goes) (unended-close event h.session.number goes) are.0,
-    are.1, all-go_on old new at event answered hs called formed goes are.2)
+all-go_on old new at event answered (h ∷ hs) called formed goes are = (
+  held-goes_on old new at event answered h called formed (unended-finish event h.session.number goes) (unended-close event h.session.number goes) are.0,
+  are.1,
+  all-go_on old new at event answered hs called formed goes are.2,
+)
 
 -- an event for one session ends no other
 abbrev pub EndsAtMost : ℕ → Event → Type 0
@@ -86,18 +87,22 @@ changed-held old new at event answered [] back h g called formed other same is a
     let number = ap (λ (m : Named). m.session) same in
     (is, subst (λ n. AreApart n back) (sym number) are.1, others-go_on old new at event answered h.session.number back called formed other are.1 are.2)
 changed-held old new at event answered (f ∷ fs) back h g called formed other same is are =
-    let unended = other f.session.number (λ e. apart-middle f.session.number fs back h are.1 (sym e)) in
-    (held-goes_on old new at event answered f called formed unended.0 unended.1 are.0,
-    apart-changed f.session.number fs back h g same are.1, changed-held old new at event answered fs back h g called formed other same is are.2)
+    let unended = other f.session.number (λ e. apart-middle f.session.number fs back h are.1 (sym e)) in (
+      held-goes_on old new at event answered f called formed unended.0 unended.1 are.0,
+      apart-changed f.session.number fs back h g same are.1,
+      changed-held old new at event answered fs back h g called formed other same is are.2,
+    )
 
 -- and them alone, where the session is gone
 pub gone-held : (old new : Known) (at : ℕ) (event : Event) (answered : Answered) (front back : List Held) (h : Held) → Called old new at event answered → IsFormed event
     → EndsAtMost h.session.number event → AreHeld old (front ++ h ∷ back) → AreHeld new (front ++ back)
 gone-held old new at event answered [] back h called formed other are = others-go_on old new at event answered h.session.number back called formed other are.1 are.2
 gone-held old new at event answered (f ∷ fs) back h called formed other are =
-    let unended = other f.session.number (λ e. apart-middle f.session.number fs back h are.1 (sym e)) in
-    (held-goes_on old new at event answered f called formed unended.0 unended.1 are.0,
-    apart-without f.session.number fs back h are.1, gone-held old new at event answered fs back h called formed other are.2)
+    let unended = other f.session.number (λ e. apart-middle f.session.number fs back h are.1 (sym e)) in (
+      held-goes_on old new at event answered f called formed unended.0 unended.1 are.0,
+      apart-without f.session.number fs back h are.1,
+      gone-held old new at event answered fs back h called formed other are.2,
+    )
 
 pub middle-held : (k : Known) (front back : List Held) (h : Held) → AreHeld k (front ++ h ∷ back) → IsHeld k h
 middle-held k [] back h are = are.0

@@ -9,7 +9,7 @@ use Rattle.rm_base.specs.declared.name.Name.{Name}
 use Rattle.rm_rules.specs.declared.state.Phase.{Phase}
 use Rattle.rm_rules.specs.declared.state.Phase.TheVariants as phase
 use Rattle.rm_rules.specs.declared.state.Session.{Session}
-use Rattle.rm_rules.specs.State.{State, session_called, if_opened_by, phase_of, with_phase, with_choice, is_ended}
+use Rattle.rm_rules.specs.State.{State, session_called, session_of, if_opened_by, phase_of, with_phase, with_choice, is_ended}
 use Rattle.rm_rules.specs.Settle.{settled}
 use Rattle.rm_rules.specs.Change.{Change}
 use Rattle.rm_rules.specs.Answers.{answered}

@@ -39,12 +39,12 @@ called s e text =
 abbrev pub at_turn : ScriptState → ℕ → Turn
 at_turn s moment = if nat_lt moment s.moment then Bad else Goes [] (record s { moment = moment })
 
--- a statement on pools, by whether it is accepted: a refused one reaches no machine
+-- a statement, by whether it is accepted: a refused one reaches no machine
 abbrev pub judged_turn : ScriptState → Statement → Result Definitions Refusal → Turn
 judged_turn s statement (Err refusal) = Goes (bare_text (reply.Refused refusal)) s
 judged_turn s statement (Ok definitions) = called s (event.Define statement) bare_text
 
--- a statement that was read: other statements than those on pools are bad lines
+-- a statement that was read: DROP RESOURCE POOL makes a bad line
 abbrev pub statement_turn : ScriptState → Statement → Turn
 statement_turn s statement =
     if is_judged statement then judged_turn s statement (accepted s.machine.definitions statement) else Bad

@@ -19,7 +19,6 @@ use rm_base::refusal::Refusal;
 use rm_base::reply::Reply;
 
 /// A session of a script, with its grant while one is out.
-#[derive(Debug)]
 pub struct Held {
     pub name: Name,
     pub session: Session,
@@ -99,31 +98,33 @@ impl Held {
             session,
             grant,
         } = self;
-        let Some(grant) = grant else {
-            return match session.close(desk, at) {
+        match grant {
+            None => match session.close(desk, at) {
                 Ok(()) => Ok(()),
-                Err((session, refusal)) => Err((
-                    Held {
+                Err((session, refusal)) => {
+                    let held = Held {
                         name,
                         session,
                         grant: None,
-                    },
-                    refusal,
-                )),
-            };
-        };
-        let event = Event::Close {
-            session: session.number(),
-        };
-        let Reply::Refused(refusal) = desk.call(at, &event).reply else {
-            unreachable!()
-        };
-        let held = Held {
-            name,
-            session,
-            grant: Some(grant),
-        };
-        Err((held, refusal))
+                    };
+                    Err((held, refusal))
+                }
+            },
+            Some(grant) => {
+                let event = Event::Close {
+                    session: session.number(),
+                };
+                let Reply::Refused(refusal) = desk.call(at, &event).reply else {
+                    unreachable!()
+                };
+                let held = Held {
+                    name,
+                    session,
+                    grant: Some(grant),
+                };
+                Err((held, refusal))
+            }
+        }
     }
 
     /// Keeps the grant of a query that was admitted.

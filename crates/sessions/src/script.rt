@@ -243,7 +243,13 @@ impl Script {
     }
 
     /// `set S pool POOL`, where S has this place
-    fn set_pool(&mut self, alloc: Global, session: Name, place: usize, pool: Name) -> Result<String, AllocError>
+    fn set_pool(
+        &mut self,
+        alloc: Global,
+        session: Name,
+        place: usize,
+        pool: Name,
+    ) -> Result<String, AllocError>
         requires { place_named self.old.names session ≡ Some place }
         ensures { IfOk result (λ text. DoesRequest self.old self.new session (SetPool pool) (string_bytes text)) }
     {
@@ -256,7 +262,13 @@ impl Script {
     }
 
     /// `ask S FLOOR`, where S has this place
-    fn ask(&mut self, alloc: Global, session: Name, place: usize, floor: u64) -> Result<String, AllocError>
+    fn ask(
+        &mut self,
+        alloc: Global,
+        session: Name,
+        place: usize,
+        floor: u64,
+    ) -> Result<String, AllocError>
         requires { place_named self.old.names session ≡ Some place }
         ensures { IfOk result (λ text. DoesRequest self.old self.new session (Ask floor) (string_bytes text)) }
     {
@@ -326,7 +338,8 @@ impl Script {
         ensures value { result.now ≡ self.now.machine.definitions }
         ensures sound { IsSound result.now }
     {
-        let _kept = self.desk.entries();
+        // What every desk keeps, as the history's clauses say.
+        let _entries = self.desk.entries();
         self.desk.definitions()
     }
 }

@@ -26,7 +26,7 @@ invariant_of-self-in-Ok c =
     let number = c.in-Ok.opened.number in
     let g : Held = record { name = c.args.session; session = c.in-Ok.opened; grant = None } in
     subst (AreHeld new) (sym c.in_ok-push-in-Ok.ensures.items)
-    (opened-held old new c.self.inside.moment c.args.user call.0 c.self.inside.held.items g call.1 call.2 c.in-Ok.ensures.opened c.in-Ok.ensures.free refl c.self.invariant)
+    (opened-held old new c.self.inside.moment c.args.user call.0 c.self.inside.held.items g call.1 call.2 c.in-Ok.ensures.open c.in-Ok.ensures.free refl c.self.invariant)
 
 pub invariant_of-self-in-Err : goal.invariant_of-self-in-Err
 invariant_of-self-in-Err c =
