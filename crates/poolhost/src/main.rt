@@ -23,7 +23,7 @@ Reads a script from standard input and writes what its lines print.
 SIZE is digits and one of K, M, G, T, from 16M to 1024T; COUNT is 1 to 1024.
 Lines of a script:
   at N                 moves the script's moment on to N milliseconds
-  sql TEXT             defines a pool: CREATE RESOURCE POOL .. or ALTER RESOURCE POOL ..
+  sql TEXT             defines what a statement says, on pools, users, roles or grants
   open S USER          opens a session of USER that the script names S
   open S USER POOL     opens it, and S chooses the pool
   set S pool POOL      S chooses the pool

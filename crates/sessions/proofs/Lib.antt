@@ -7,7 +7,10 @@ pub mod OptionsLaws
 pub mod ScriptLaws
 pub mod EndedLaws
 pub mod EndedLemmas
-mod NamesLemmas
+mod HeldLaws
+mod HoldingLaws
+mod TurnLemmas
+mod FreshLaws
 pub mod RunLemmas
 pub mod HostLaws
 pub mod OpenLaws

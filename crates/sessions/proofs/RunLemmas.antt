@@ -43,38 +43,11 @@ unwritten old new text more end WriteFault same h = (subst (WroteFront old.told 
 unwritten old new text more end Memory same h = subst (WroteFront old.told new.told) (sym same) (longer old.told new.told text more h)
 unwritten old new text more end TooLong same h = absurd h
 
--- a line that prints this text: the script goes on, or ends where the text could not be written
-pub printed-goes : (s s' : ScriptState) (line : List ℕ) (a b : Option (List ℕ)) (text : List ℕ) (r : Result (Unit {0}) Failure) → line_turn s line ≡ Goes text s'
-    → OnOk r (Appends a b text) → OnOk r (WentOn s s' line a b)
-printed-goes s s' line a b text (Ok done) turn whole = record { text = text; turn = turn; wrote = whole }
-printed-goes s s' line a b text (Err f) turn whole = tt
-
 pub printed-ends : (number : ℕ) (s s' : ScriptState) (line : List ℕ) (old new : Seen (Option (List ℕ))) (text : List ℕ) (r : Result (Unit {0}) Failure) → line_turn s line ≡ Goes text s'
     → IfErr r (ExplainsOutput old new text) → IfErr r (EndedAt number s line old new)
 printed-ends number s s' line old new text (Ok done) turn err = tt
 printed-ends number s s' line old new text (Err f) turn err =
     λ next. unwritten old new text (next s').text (turn_end number s (line_turn s line) next) f (ap (λ t. (turn_end number s t next).text) turn) err
-
--- a line that is bad ends the script, also where this could not be said
-pub bad-ends : (number : ℕ) (s : ScriptState) (line : List ℕ) (old new : Seen (Option (List ℕ))) → line_turn s line ≡ Bad → Appends old.told new.told (bad_text number)
-    → EndedAt number s line old new BadLine
-bad-ends number s line old new turn wrote =
-    λ next. let P : ScriptEnd → Type 0 = λ e. LinesEnded old new e (Err BadLine) in
-    subst P (sym (ap (λ t. turn_end number s t next) turn)) (wrote, refl)
-
-pub bad-unwritten : (number : ℕ) (s : ScriptState) (line : List ℕ) (old new : Seen (Option (List ℕ))) (f : Failure) → line_turn s line ≡ Bad → ExplainsOutput old new (bad_text number) f
-    → EndedAt number s line old new f
-bad-unwritten number s line old new f turn err =
-    λ next. unwritten old new (bad_text number) [] (turn_end number s (line_turn s line) next) f (ap (λ t. (turn_end number s t next).text) turn ∙ sym (append-nil (bad_text number))) err
-
--- a line that fails writes nothing
-pub fault-ends : (number : ℕ) (s : ScriptState) (line : List ℕ) (old new : Seen (Option (List ℕ))) (f : Failure) → Keeps old.told new.told → IsLineFault f → EndedAt number s line old new f
-fault-ends number s line old new Usage kept h = absurd h
-fault-ends number s line old new BadLine kept h = absurd h
-fault-ends number s line old new ReadFault kept h = absurd h
-fault-ends number s line old new WriteFault kept h = absurd h
-fault-ends number s line old new Memory kept h = λ next. wrote_nothing old.told new.told (turn_end number s (line_turn s line) next).text kept
-fault-ends number s line old new TooLong kept h = absurd h
 
 -- a script as far as it has run: each line took a byte at least, so the lines are no more than the bytes
 pub record HasRun (bytes rest : List ℕ) (first now : ScriptState) (number : ℕ) (old new : Seen (Option (List ℕ))) : Type 0 where
@@ -83,9 +56,6 @@ pub record HasRun (bytes rest : List ℕ) (first now : ScriptState) (number : �
   pub same : lines_end 1 first (lines bytes) ≡ after_text done (lines_end number now (lines rest))
   pub later : old.faults ≤ new.faults
   pub counted : number + length rest ≤ length bytes + 1
-
-pub has_run-start : (bytes : List ℕ) (s : ScriptState) (a : Seen (Option (List ℕ))) → HasRun bytes bytes s s 1 a a
-has_run-start bytes s a = record { done = []; wrote = Appends-nil a.told; same = refl; later = omega arith; counted = omega arith }
 
 pub has_run-more : (bytes rest more line : List ℕ) (first now next : ScriptState) (number : ℕ) (a b c : Seen (Option (List ℕ))) → HasRun bytes rest first now number a b
     → lines rest ≡ line ∷ lines more → length more < length rest → WentOn now next line b.told c.told → b.faults ≤ c.faults → HasRun bytes more first next (number + 1) a c

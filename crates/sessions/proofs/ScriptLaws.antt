@@ -27,7 +27,7 @@ use Rattle.sessions.specs.declared.options.Options.{Options}
 use Rattle.sessions.specs.Commands.{Request, SetPool, Ask, Poll, Done, Close, Command, At, Sql, Open, Of, command_of}
 use Rattle.sessions.specs.Options.{options_of}
 use Rattle.sessions.specs.Script.{command_turn, line_turn, is_comment, ScriptEnd, turn_end, lines_end, no_script, script_start, first_state, script_with, script, IsOneHistory}
-use Rattle.sessions.specs.Turns.{ScriptState, Turn, Bad, Goes, Stops, judged_turn, read_turn, with_name, chosen_turn, opened_turn, opening_turn, after_close, close_turn, request_turn, session_turn, turn}
+use Rattle.sessions.specs.Turns.{ScriptState, Turn, Bad, Goes, Stops, judged_turn, read_turn, chosen_turn, after_open, opened_turn, opening_turn, after_close, close_turn, request_turn, session_turn, turn}
 use Rattle.sessions.specs.SessionNames.{session_named}
 use Rattle.sessions.proofs.OptionsLaws.{options-within}
 
@@ -67,13 +67,18 @@ chooses P each s session number None h = h
 chooses P each s session number (Some pool) h = each s.machine s.moment (event.SetPool number pool) tt h
 
 follows_open : (P : State → Type 0) → IsKeptByCalls P → (s : ScriptState) (session : Name) (pool : Option Name) (r : Reply) → P s.machine → OnTurn P (opened_turn s session pool r)
-follows_open P each s session pool (reply.Opened number) h = chooses P each (with_name s session number) session number pool h
+follows_open P each s session pool (reply.Opened number) h = chooses P each s session number pool h
 follows_open P each s session pool _ h = h
+
+after_open-machine : (s : ScriptState) (session : Name) (r : Reply) → (after_open s session r).machine ≡ s.machine
+after_open-machine s session (reply.Opened number) = refl
+after_open-machine s session _ = refl
 
 opens : (P : State → Type 0) → IsKeptByCalls P → (s : ScriptState) (session user : Name) (pool : Option Name) → P s.machine → OnTurn P (opening_turn s session user pool)
 opens P each s session user pool h =
     let o = step s.machine 0 s.moment (event.Open user) in
-    follows_open P each (record s { machine = o.state }) session pool o.reply (each s.machine s.moment (event.Open user) tt h)
+    let t : ScriptState = record s { machine = o.state } in
+    follows_open P each (after_open t session o.reply) session pool o.reply (subst P (sym (after_open-machine t session o.reply)) (each s.machine s.moment (event.Open user) tt h))
 
 after_close-machine : (s : ScriptState) (session : Name) (r : Reply) → (after_close s session r).machine ≡ s.machine
 after_close-machine s session reply.Closed = refl

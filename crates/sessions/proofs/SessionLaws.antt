@@ -24,7 +24,7 @@ use Rattle.sessions.proofs.ToldLaws.{asks, asking-tells, IsGiven, poll-given}
 use Rattle.sessions.proofs.EndingLaws.{AnswersOpen, open-answers, AnswersClose, close-answers}
 
 -- what the event leaves and replies at what the host found, the call does
-called-turn : (P : ℕ → State → Reply → Type 0) (old new : Known) (at : ℕ) (event : Event) (answered : Answered) (h : Called old new at event answered)
+pub called-turn : (P : ℕ → State → Reply → Type 0) (old new : Known) (at : ℕ) (event : Event) (answered : Answered) (h : Called old new at event answered)
     → P h.found.seat (outcome_at h.found at event).state (outcome_at h.found at event).reply → P new.seat (state_of new) answered.reply
 called-turn P old new at event answered h is =
     let o = outcome_at h.found at event in

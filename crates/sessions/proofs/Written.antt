@@ -19,10 +19,6 @@ pub wrote_more : (a b c : Option (List ℕ)) (text : List ℕ) (at n : ℕ) → 
 wrote_more a b c text at n p q =
     subst (Appends a c) (sym (take-add at n text)) (Appends-trans a b c (take at text) (take n (drop at text)) p (subst (λ (l : List ℕ). Appends b c (take n l)) (rest_whole at text) q))
 
--- all of the text
-pub wrote_all : (a b : Option (List ℕ)) (text : List ℕ) (at : ℕ) → length text ≤ at → Appends a b (take at text) → Appends a b text
-wrote_all a b text at all p = subst (Appends a b) (take_all at text all) p
-
 -- the front of a text, and no more
 pub wrote_front : (a b c : Option (List ℕ)) (text : List ℕ) (at : ℕ) → Appends a b (take at text) → Keeps b c → WroteFront a c text
 wrote_front a b c text at p q =

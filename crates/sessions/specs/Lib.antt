@@ -2,7 +2,9 @@ pub mod Commands
 pub mod Ended
 pub mod Failures
 pub mod Granted
+pub mod Held
 pub mod Host
+pub mod Kept
 pub mod Lines
 pub mod Numbers
 pub mod Options

@@ -1,14 +1,22 @@
 -- The script's names of its sessions.
-use Rattle.std.specs.Prelude.{ℕ, Bool, List, Option, option_map, find}
+use Rattle.std.specs.Prelude.{ℕ, Bool, List, Option, option_map, find, position}
 use Rattle.std.specs.List.{list_any}
 use Rattle.rm_base.specs.declared.name.Name.{Name}
 use Rattle.rm_base.specs.Name.{same_name}
 use Rattle.rm_rules.specs.State.{without}
-use Rattle.sessions.specs.declared.names.Named.{Named}
+
+-- a session, by the script's name for it
+pub record Named : Type 0 where
+  pub name : Name
+  pub session : ℕ
 
 -- some session has this name
 abbrev pub is_used : List Named → Name → Bool
 is_used names name = list_any (λ n. same_name n.name name) names
+
+-- the place of the first session that has this name
+abbrev pub place_named : List Named → Name → Option ℕ
+place_named names name = position (λ n. same_name n.name name) names
 
 -- the session that has this name
 abbrev pub session_named : List Named → Name → Option ℕ

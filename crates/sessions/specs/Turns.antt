@@ -12,9 +12,8 @@ use Rattle.pool_sql.specs.Reading.{read_of}
 use Rattle.rm_rules.specs.Acceptance.{accepted, is_judged}
 use Rattle.rm_rules.specs.State.{State}
 use Rattle.rm_rules.specs.Step.{step}
-use Rattle.sessions.specs.declared.names.Named.{Named}
 use Rattle.sessions.specs.Commands.{Request, SetPool, Ask, Poll, Done, Close, Command, At, Sql, Open, Of}
-use Rattle.sessions.specs.SessionNames.{is_used, session_named, without_name}
+use Rattle.sessions.specs.SessionNames.{Named, is_used, session_named, without_name}
 use Rattle.sessions.specs.Texts.{line_text, queued_text, chosen_text, bare_text}
 
 -- the state of a script: the machine's, the script's names of the open sessions, and its moment
@@ -40,12 +39,12 @@ called s e text =
 abbrev pub at_turn : ScriptState → ℕ → Turn
 at_turn s moment = if nat_lt moment s.moment then Bad else Goes [] (record s { moment = moment })
 
--- a statement on pools, by whether it is accepted: a refused one reaches no machine
+-- a statement, by whether it is accepted: a refused one reaches no machine
 abbrev pub judged_turn : ScriptState → Statement → Result Definitions Refusal → Turn
 judged_turn s statement (Err refusal) = Goes (bare_text (reply.Refused refusal)) s
 judged_turn s statement (Ok definitions) = called s (event.Define statement) bare_text
 
--- a statement that was read: other statements than those on pools are bad lines
+-- a statement that was read: DROP RESOURCE POOL makes a bad line
 abbrev pub statement_turn : ScriptState → Statement → Turn
 statement_turn s statement =
     if is_judged statement then judged_turn s statement (accepted s.machine.definitions statement) else Bad
@@ -64,16 +63,21 @@ abbrev pub chosen_turn : ScriptState → Name → ℕ → Option Name → Turn
 chosen_turn s session number None = Goes (line_text session (reply.Opened number)) s
 chosen_turn s session number (Some pool) = called s (event.SetPool number pool) (chosen_text session number)
 
--- what follows Open: a session that was opened has its name, whether or not its pool is set
+-- the script's names after the reply to Open: a session that was opened has its name, whether or not its pool is set
+abbrev pub after_open : ScriptState → Name → Reply → ScriptState
+after_open s session (reply.Opened number) = with_name s session number
+after_open s session answer = s
+
+-- what follows Open
 abbrev pub opened_turn : ScriptState → Name → Option Name → Reply → Turn
-opened_turn s session pool (reply.Opened number) = chosen_turn (with_name s session number) session number pool
+opened_turn s session pool (reply.Opened number) = chosen_turn s session number pool
 opened_turn s session pool answer = Goes (line_text session answer) s
 
 -- Open, and what follows it
 abbrev pub opening_turn : ScriptState → Name → Name → Option Name → Turn
 opening_turn s session user pool =
     let o = step s.machine 0 s.moment (event.Open user) in
-    opened_turn (record s { machine = o.state }) session pool o.reply
+    opened_turn (after_open (record s { machine = o.state }) session o.reply) session pool o.reply
 
 -- `open S USER` or `open S USER POOL`: bad where a session has the name
 abbrev pub open_turn : ScriptState → Name → Name → Option Name → Turn

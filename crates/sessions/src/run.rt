@@ -3,7 +3,7 @@
 ghost use Rattle.std.specs.Prelude.{◌≤◌, length, OnOk, IfErr};
 ghost use Rattle.std.specs.Str.Lines.{lines};
 ghost use Rattle.sessions.specs.Script.{lines_end};
-ghost use Rattle.sessions.specs.Running.{seen_script, LinesEnded, WentOn, EndedAt};
+ghost use Rattle.sessions.specs.Running.{LinesEnded, WentOn, EndedAt};
 ghost use Rattle.sessions.specs.World.{seen_sink};
 
 use crate::failure::Failure;
@@ -24,8 +24,8 @@ fn run_line<O: Sink>(
     out: &mut O,
 ) -> Result<(), Failure>
     ensures later { O.faults out.old ≤ O.faults out.new }
-    ensures goes { OnOk result (WentOn (seen_script script.old) (seen_script script.new) line.now (O.written out.old) (O.written out.new)) }
-    ensures ends { IfErr result (EndedAt number (seen_script script.old) line.now (seen_sink O.Sink out.old) (seen_sink O.Sink out.new)) }
+    ensures goes { OnOk result (WentOn script.old script.new line.now (O.written out.old) (O.written out.new)) }
+    ensures ends { IfErr result (EndedAt number script.old line.now (seen_sink O.Sink out.old) (seen_sink O.Sink out.new)) }
 {
     match script.take_line(alloc, line)? {
         Turned::Goes(text) => write_text(out, text.as_bytes()),
@@ -47,7 +47,7 @@ pub fn run_lines<O: Sink>(
 ) -> Result<(), Failure>
     requires { length bytes.now ≤ SCRIPT_MOST }
     ensures later { O.faults out.old ≤ O.faults out.new }
-    ensures ends { LinesEnded (seen_sink O.Sink out.old) (seen_sink O.Sink out.new) (lines_end 1 (seen_script script.old) (lines bytes.now)) result }
+    ensures ends { LinesEnded (seen_sink O.Sink out.old) (seen_sink O.Sink out.new) (lines_end 1 script.old (lines bytes.now)) result }
 {
     let mut rest = bytes;
     let mut number = 1;

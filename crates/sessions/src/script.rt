@@ -1,4 +1,4 @@
-//! A script that runs: its machine, its names of the open sessions, and its moment.
+//! A script that runs: its machine, the sessions that it has opened there, and its moment.
 
 ghost use Rattle.std.specs.Prelude.{◌≡◌, IfOk};
 ghost use Rattle.rm_base.specs.declared.reply.Reply.TheVariants as reply;
@@ -10,10 +10,12 @@ ghost use Rattle.sessions.specs.Texts.{bare_text};
 use crate::command::{Command, Request, read_command};
 use crate::comments::is_comment;
 use crate::failure::Failure;
+use crate::held::{Held, is_used, place_of};
+use crate::host::Host;
 use crate::lines::readable;
-use crate::names::{Named, free, is_used, place_of};
 use crate::numbers::Number;
 use crate::options::Options;
+use crate::session::Session;
 use crate::texts::{bare_text, chosen_text, line_text, queued_text};
 use machine::desk::Desk;
 use pool_sql::reading::{ReadError, read_statement};
@@ -27,13 +29,26 @@ use rm_base::refusal::Refusal;
 use rm_base::reply::Reply;
 use rm_base::statement::Statement;
 use std::alloc::{AllocError, Global};
+use std::marker::Model;
 
 /// A script that runs.
 #[derive(Drop)]
 pub struct Script {
     desk: Desk,
-    names: Vec<Named>,
+    held: Vec<Held>,
     moment: Moment,
+}
+
+impl Model for Script {
+    ghost use Rattle.sessions.specs.Turns.{ScriptState};
+
+    ghost Value = { ScriptState };
+
+    ghost use Rattle.sessions.specs.Kept.{seen_script, IsKept};
+
+    ghost view = { seen_script };
+
+    ghost invariant = { IsKept };
 }
 
 /// What a line did: it is bad, or it prints a text.
@@ -43,39 +58,37 @@ pub enum Turned {
     Goes(String),
 }
 
-/// The seat from which a script calls its machine.
-const SEAT: u32 = 0;
-
 impl Script {
-    ghost use Rattle.std.specs.Prelude.{◌≡◌, true, [], IfOk, IfErr, string_bytes};
+    ghost use Rattle.std.specs.Prelude.{◌≡◌, true, [], Some, IfOk, IfErr, string_bytes};
     ghost use Rattle.rm_base.specs.Ranges.{is_statement_in_range};
     ghost use Rattle.rm_base.specs.WellFormed.{IsWellFormed};
     ghost use Rattle.rm_rules.specs.Step.{step};
     ghost use Rattle.rm_rules.specs.Replay.{IsFormed};
+    ghost use Rattle.rm_rules.specs.Sound.{IsSound};
     ghost use Rattle.pool_sql.specs.Reading.{read_of};
-    ghost use Rattle.sessions.specs.Commands.{seen_command, seen_request};
+    ghost use Rattle.sessions.specs.Commands.{seen_command, seen_request, SetPool, Ask, Poll, Done, Close};
     ghost use Rattle.sessions.specs.OptionsFacts.{AreWithin};
     ghost use Rattle.sessions.specs.Script.{first_state, line_turn};
-    ghost use Rattle.sessions.specs.Turns.{turn, at_turn, read_turn, statement_turn, open_turn, opening_turn, chosen_turn, close_turn, session_turn, request_turn, Goes};
-    ghost use Rattle.sessions.specs.SessionNames.{session_named};
-    ghost use Rattle.sessions.specs.Running.{seen_script, seen_turn, IsLineFault};
+    ghost use Rattle.sessions.specs.Turns.{turn, at_turn, read_turn, statement_turn, open_turn, chosen_turn, after_open, session_turn};
+    ghost use Rattle.sessions.specs.SessionNames.{is_used, place_named, session_named};
+    ghost use Rattle.sessions.specs.Running.{seen_turn, ends_nothing, DoesRequest, IsLineFault};
 
     /// A script before its first line.
     pub fn new(alloc: Global, options: Options) -> Result<Script, AllocError>
         requires { AreWithin options }
-        ensures { IfOk result (λ s. seen_script s ≡ first_state options) }
+        ensures { IfOk result (λ s. s ≡ first_state options) }
     {
         let definitions = Definitions::new(alloc, options.memory, options.cores)?;
         Ok(Script {
             desk: Desk::new(alloc, definitions, SCRIPT_ROOM)?,
-            names: Vec::new(alloc),
+            held: Vec::new(alloc),
             moment: Moment::of(0),
         })
     }
 
     /// Does what a line says.
     pub fn take_line(&mut self, alloc: Global, line: &[u8]) -> Result<Turned, Failure>
-        ensures turn { IfOk result (λ t. seen_turn t (seen_script self.new) ≡ line_turn (seen_script self.old) line.now) }
+        ensures turn { IfOk result (λ t. seen_turn t self.new ≡ line_turn self.old line.now) }
         ensures fault { IfErr result IsLineFault }
     {
         let Some(line) = readable(line) else {
@@ -92,7 +105,7 @@ impl Script {
 
     /// Does what a command says.
     fn take_command(&mut self, alloc: Global, command: Command<'_>) -> Result<Turned, Failure>
-        ensures turn { IfOk result (λ t. seen_turn t (seen_script self.new) ≡ turn (seen_script self.old) (seen_command command.entry)) }
+        ensures turn { IfOk result (λ t. seen_turn t self.new ≡ turn self.old (seen_command command.entry)) }
         ensures fault { IfErr result IsLineFault }
     {
         match command {
@@ -109,7 +122,7 @@ impl Script {
 
     /// `at N`
     fn move_to(&mut self, alloc: Global, moment: Number) -> Turned
-        ensures { seen_turn result (seen_script self.new) ≡ at_turn (seen_script self.old) moment.value }
+        ensures { seen_turn result self.new ≡ at_turn self.old moment.value }
     {
         let moment = Moment::of(moment.value);
         if moment < self.moment {
@@ -121,7 +134,7 @@ impl Script {
 
     /// `sql TEXT`
     fn take_text(&mut self, alloc: Global, text: &str) -> Result<Turned, AllocError>
-        ensures { IfOk result (λ t. seen_turn t (seen_script self.new) ≡ read_turn (seen_script self.old) (read_of text.now)) }
+        ensures { IfOk result (λ t. seen_turn t self.new ≡ read_turn self.old (read_of text.now)) }
     {
         match read_statement(alloc, text) {
             Ok(statement) => self.take_statement(alloc, &statement),
@@ -134,12 +147,12 @@ impl Script {
     fn take_statement(&mut self, alloc: Global, statement: &Statement) -> Result<Turned, AllocError>
         requires well_formed { IsWellFormed statement.now }
         requires in_range { is_statement_in_range statement.now ≡ true }
-        ensures { IfOk result (λ t. seen_turn t (seen_script self.new) ≡ statement_turn (seen_script self.old) statement.now) }
+        ensures { IfOk result (λ t. seen_turn t self.new ≡ statement_turn self.old statement.now) }
     {
         if !is_judged(statement) {
             return Ok(Turned::Bad);
         }
-        match accept(self.desk.definitions(), statement) {
+        match accept(self.definitions(), statement) {
             Ok(()) => {
                 let reply = self.call(&Event::Define(*statement));
                 Ok(Turned::Goes(bare_text(alloc, reply)?))
@@ -156,34 +169,34 @@ impl Script {
         user: Name,
         pool: Option<Name>,
     ) -> Result<Turned, AllocError>
-        ensures { IfOk result (λ t. seen_turn t (seen_script self.new) ≡ open_turn (seen_script self.old) session user pool) }
+        ensures { IfOk result (λ t. seen_turn t self.new ≡ open_turn self.old session user pool) }
     {
-        if is_used(&self.names, session) {
+        if self.is_used(session) {
             return Ok(Turned::Bad);
         }
-        self.open_session(alloc, session, user, pool)
+        match self.open_session(session, user)? {
+            Reply::Opened(number) => self.choose_pool(alloc, session, number, pool),
+            reply => Ok(Turned::Goes(line_text(alloc, session, reply)?)),
+        }
     }
 
-    /// Opens a session, and keeps its name if it was opened.
-    fn open_session(
-        &mut self,
-        alloc: Global,
-        session: Name,
-        user: Name,
-        pool: Option<Name>,
-    ) -> Result<Turned, AllocError>
-        ensures { IfOk result (λ t. seen_turn t (seen_script self.new) ≡ opening_turn (seen_script self.old) session user pool) }
+    /// Opens a session, and holds it if it was opened.
+    fn open_session(&mut self, session: Name, user: Name) -> Result<Reply, AllocError>
+        ensures reply { IfOk result (λ reply. reply ≡ (step self.old.machine 0 self.old.moment (Event.Open user)).reply) }
+        ensures state { IfOk result (λ reply. let o = step self.old.machine 0 self.old.moment (Event.Open user) in
+            self.new ≡ after_open (record self.old { machine = o.state }) session reply) }
     {
-        let reply = self.call(&Event::Open { user });
-        match reply {
-            Reply::Opened(number) => {
-                self.names.push(Named {
+        match Session::open(&mut self.desk, self.moment, user) {
+            Ok(opened) => {
+                let number = opened.number();
+                self.held.push(Held {
                     name: session,
-                    session: number,
+                    session: opened,
+                    grant: None,
                 })?;
-                self.choose_pool(alloc, session, number, pool)
+                Ok(Reply::Opened(number))
             }
-            _ => Ok(Turned::Goes(line_text(alloc, session, reply)?)),
+            Err(refusal) => Ok(Reply::Refused(refusal)),
         }
     }
 
@@ -195,7 +208,7 @@ impl Script {
         number: u32,
         pool: Option<Name>,
     ) -> Result<Turned, AllocError>
-        ensures { IfOk result (λ t. seen_turn t (seen_script self.new) ≡ chosen_turn (seen_script self.old) session number pool) }
+        ensures { IfOk result (λ t. seen_turn t self.new ≡ chosen_turn self.old session number pool) }
     {
         let Some(pool) = pool else {
             return Ok(Turned::Goes(line_text(alloc, session, Reply::Opened(number))?));
@@ -214,71 +227,120 @@ impl Script {
         session: Name,
         request: Request,
     ) -> Result<Turned, AllocError>
-        ensures { IfOk result (λ t. seen_turn t (seen_script self.new) ≡ session_turn (seen_script self.old) session (seen_request request) (session_named (seen_script self.old).names session)) }
+        ensures { IfOk result (λ t. seen_turn t self.new ≡ session_turn self.old session (seen_request request) (session_named self.old.names session)) }
     {
-        let Some(place) = place_of(&self.names, session) else {
+        let Some(place) = self.place_of(session) else {
             return Ok(Turned::Bad);
         };
-        let number = self.names[place].session;
-        self.request(alloc, session, number, request)
-    }
-
-    /// Does what a line asks of the session of this number.
-    fn request(
-        &mut self,
-        alloc: Global,
-        session: Name,
-        number: u32,
-        request: Request,
-    ) -> Result<Turned, AllocError>
-        ensures { IfOk result (λ t. seen_turn t (seen_script self.new) ≡ request_turn (seen_script self.old) session number (seen_request request)) }
-    {
         let text = match request {
-            Request::SetPool(pool) => {
-                let reply = self.call(&Event::SetPool {
-                    session: number,
-                    pool,
-                });
-                line_text(alloc, session, reply)?
-            }
-            Request::Ask(floor) => {
-                let reply = self.call(&Event::Submit {
-                    session: number,
-                    floor,
-                });
-                queued_text(alloc, session, reply)?
-            }
-            Request::Poll => {
-                let reply = self.call(&Event::Poll { session: number });
-                line_text(alloc, session, reply)?
-            }
-            Request::Done => {
-                let reply = self.call(&Event::Finish { session: number });
-                line_text(alloc, session, reply)?
-            }
-            Request::Close => self.close(alloc, session, number)?,
+            Request::SetPool(pool) => self.set_pool(alloc, session, place, pool)?,
+            Request::Ask(floor) => self.ask(alloc, session, place, floor)?,
+            Request::Poll => self.poll(alloc, session, place)?,
+            Request::Done => self.finish(alloc, session, place)?,
+            Request::Close => self.close(alloc, session, place)?,
         };
         Ok(Turned::Goes(text))
     }
 
-    /// `close S`
-    fn close(&mut self, alloc: Global, session: Name, number: u32) -> Result<String, AllocError>
-        ensures { IfOk result (λ text. Goes (string_bytes text) (seen_script self.new) ≡ close_turn (seen_script self.old) session number) }
+    /// `set S pool POOL`, where S has this place
+    fn set_pool(
+        &mut self,
+        alloc: Global,
+        session: Name,
+        place: usize,
+        pool: Name,
+    ) -> Result<String, AllocError>
+        requires { place_named self.old.names session ≡ Some place }
+        ensures { IfOk result (λ text. DoesRequest self.old self.new session (SetPool pool) (string_bytes text)) }
     {
-        let reply = self.call(&Event::Close { session: number });
-        if let Reply::Closed = reply {
-            free(&mut self.names, session);
-        }
+        let event = Event::SetPool {
+            session: self.held[place].session.number(),
+            pool,
+        };
+        let reply = self.call(&event);
         line_text(alloc, session, reply)
     }
 
-    /// Makes a machine call at the script's moment.
-    fn call(&mut self, event: &Event) -> Reply
-        requires { IsFormed event.now }
-        ensures reply { result ≡ (step (seen_script self.old).machine 0 (seen_script self.old).moment event.now).reply }
-        ensures state { seen_script self.new ≡ record (seen_script self.old) { machine = (step (seen_script self.old).machine 0 (seen_script self.old).moment event.now).state } }
+    /// `ask S FLOOR`, where S has this place
+    fn ask(
+        &mut self,
+        alloc: Global,
+        session: Name,
+        place: usize,
+        floor: u64,
+    ) -> Result<String, AllocError>
+        requires { place_named self.old.names session ≡ Some place }
+        ensures { IfOk result (λ text. DoesRequest self.old self.new session (Ask floor) (string_bytes text)) }
     {
-        self.desk.apply(SEAT, self.moment, event).reply
+        let reply = self.held[place].ask(&mut self.desk, self.moment, floor);
+        queued_text(alloc, session, reply)
+    }
+
+    /// `poll S`, where S has this place
+    fn poll(&mut self, alloc: Global, session: Name, place: usize) -> Result<String, AllocError>
+        requires { place_named self.old.names session ≡ Some place }
+        ensures { IfOk result (λ text. DoesRequest self.old self.new session Poll (string_bytes text)) }
+    {
+        let reply = self.held[place].poll(&mut self.desk, self.moment);
+        line_text(alloc, session, reply)
+    }
+
+    /// `done S`, where S has this place
+    fn finish(&mut self, alloc: Global, session: Name, place: usize) -> Result<String, AllocError>
+        requires { place_named self.old.names session ≡ Some place }
+        ensures { IfOk result (λ text. DoesRequest self.old self.new session Done (string_bytes text)) }
+    {
+        let reply = self.held[place].finish(&mut self.desk, self.moment);
+        line_text(alloc, session, reply)
+    }
+
+    /// `close S`, where S has this place
+    fn close(&mut self, alloc: Global, session: Name, place: usize) -> Result<String, AllocError>
+        requires { place_named self.old.names session ≡ Some place }
+        ensures { IfOk result (λ text. DoesRequest self.old self.new session Close (string_bytes text)) }
+    {
+        let held = self.held.remove(place);
+        match held.close(&mut self.desk, self.moment) {
+            Ok(()) => line_text(alloc, session, Reply::Closed),
+            Err((held, refusal)) => {
+                self.held.insert(place, held)?;
+                line_text(alloc, session, Reply::Refused(refusal))
+            }
+        }
+    }
+
+    /// Makes a machine call of an event by which nothing ends, at the script's moment.
+    fn call(&mut self, event: &Event) -> Reply
+        requires formed { IsFormed event.now }
+        requires goes_on { ends_nothing event.now ≡ true }
+        ensures reply { result ≡ (step self.old.machine 0 self.old.moment event.now).reply }
+        ensures state { self.new ≡ record self.old { machine = (step self.old.machine 0 self.old.moment event.now).state } }
+    {
+        self.desk.call(self.moment, event).reply
+    }
+
+    /// Whether a session has this name.
+    fn is_used(&self, session: Name) -> bool
+        ensures { result ≡ is_used self.now.names session }
+    {
+        is_used(&self.held, session)
+    }
+
+    /// The place of the session that has this name.
+    fn place_of(&self, session: Name) -> Option<usize>
+        ensures { result ≡ place_named self.now.names session }
+    {
+        place_of(&self.held, session)
+    }
+
+    /// The definitions in force.
+    fn definitions(&self) -> &Definitions
+        ensures value { result.now ≡ self.now.machine.definitions }
+        ensures sound { IsSound result.now }
+    {
+        // What every desk keeps, as the history's clauses say.
+        let _entries = self.desk.entries();
+        self.desk.definitions()
     }
 }
 

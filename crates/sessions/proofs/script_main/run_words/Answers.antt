@@ -5,7 +5,7 @@ use Rattle.std.proofs.lemmas.Result.{err_from_is_err_and}
 use Rattle.sessions.specs.declared.options.Options.{Options}
 use Rattle.sessions.specs.declared.failure.Failure.TheVariants.{Memory}
 use Rattle.sessions.specs.Ended.{EndsAs}
-use Rattle.sessions.specs.Running.{seen_script, LinesEnded}
+use Rattle.sessions.specs.Running.{LinesEnded}
 use Rattle.sessions.specs.Script.{lines_end}
 use Rattle.sessions.specs.Turns.{ScriptState}
 use Rattle.sessions.specs.World.{World, seen_source, seen_sink}
@@ -33,6 +33,6 @@ returns-clause-ends g c = λ old new.
     let before : World = record old { input = seen_source g.S.Source c.args.input.now; output = seen_sink g.O.Sink c.args.out.now } in
     let after : World = record new { input = seen_source g.S.Source c.read_input.new.input; output = seen_sink g.O.Sink c.run_lines.new.out } in
     let at : (bytes : List ℕ) (s : ScriptState) → Type 0 = λ bytes s. LinesEnded before.output after.output (lines_end 1 s (lines bytes)) c.run_lines.result in
-    let ended = subst (λ (s : ScriptState). at c.in_ok-bytes.bytes.items s) c.in_ok-script.ensures (subst (λ (bytes : List ℕ). at bytes (seen_script c.in_ok-script.script)) c.deref.ensures.value c.run_lines.ensures.ends) in
+    let ended = subst (λ (s : ScriptState). at c.in_ok-bytes.bytes.items s) c.in_ok-script.ensures (subst (λ (bytes : List ℕ). at bytes c.in_ok-script.script) c.deref.ensures.value c.run_lines.ensures.ends) in
     subst (λ (o : Option Options). EndsAs o before after c.run_lines.result) c.in-Some.ensures.options
     (ran c.in-Some.options before after c.in_ok-bytes.bytes.items c.run_lines.result c.in_ok-bytes.ensures.whole ended)

@@ -1,0 +1,63 @@
+-- The number of a session that is opened is no other open session's.
+use Rattle.std.proofs.Common.{◌≡◌, ◌≢◌, ℕ, ◌+◌, ◌≤◌, false, ◌||◌, leb, List, [], ◌∷◌, ◌++◌, None, refl, sym, arith}
+use Rattle.std.proofs.lemmas.Bool.{leb-true}
+use Rattle.rm_base.specs.declared.entry.Answered.{Answered}
+use Rattle.rm_base.specs.declared.event.Event.{Event}
+use Rattle.rm_base.specs.declared.event.Event.TheVariants.{Open}
+use Rattle.rm_base.specs.declared.name.Name.{Name}
+use Rattle.rm_base.specs.declared.reply.Reply.TheVariants as reply
+use Rattle.rm_rules.specs.State.{State}
+use Rattle.rm_rules.specs.Settle.{settled}
+use Rattle.rm_rules.specs.Change.{Change}
+use Rattle.rm_rules.specs.Answers.{reply_of}
+use Rattle.rm_rules.specs.Step.{has_due, found_at, attempted, step}
+use Rattle.rm_rules.specs.Healthy.{IsHealthy}
+use Rattle.rm_rules.proofs.Taken.{all_found}
+use Rattle.rm_rules.proofs.Phases.{has_number}
+use Rattle.rm_rules.proofs.Changing.{IsTried, stays, changes, refuses, opens, session_of-is, tried-is}
+use Rattle.rm_rules.proofs.Stepping.{found-facts, outcome-turn}
+use Rattle.sessions.specs.declared.held.Held.{Held}
+use Rattle.sessions.specs.Held.{AreHeld}
+use Rattle.sessions.specs.Host.{Known, state_of, Called}
+use Rattle.sessions.specs.Session.{IsOpen, SeesOpen}
+use Rattle.sessions.proofs.HeldLaws.{all-go_on, more-held, open-apart}
+use Rattle.sessions.proofs.HoldingLaws.{without-grant}
+use Rattle.sessions.proofs.HostLaws.{sees-healthy}
+use Rattle.sessions.proofs.OpenLaws.{there-of, open-there, there-found}
+use Rattle.sessions.proofs.SessionLaws.{called-turn, open-sees}
+
+-- it is the next number
+next-number : (s t : State) (seat : ℕ) (user : Name) (c : Change) (m : ℕ) → IsTried s seat (Open user) c → reply_of t c.answer ≡ reply.Opened m → m ≡ s.last_session + 1
+next-number s t seat user _ m (stays _ (refuses _ r is)) answer = absurd (cc)
+next-number s t seat _ c m (changes _ (opens user may) loud) answer = let e : s.last_session + 1 ≡ m = cc in sym e
+
+given : (s : State) (seat n : ℕ) → IsHealthy s → (at : ℕ) → IsOpen s seat n → n ≤ (found_at s at).last_session
+given s seat n healthy at is =
+    let t = found_at s at in
+    let there = there-of t seat n (there-found n seat s at (open-there s seat n is)) in
+    let x = there.0 in
+    let found = session_of-is t seat n x there.1 in
+    let within = all_found (λ z. leb z.number t.last_session) (has_number n) t.sessions x (found-facts s at healthy).opened.given found.called in
+    omega (arith, found.number, leb-true x.number t.last_session within)
+
+opened-new : (s : State) (seat at n m : ℕ) (user : Name) → IsHealthy s → IsOpen s seat n → (step s seat at (Open user)).reply ≡ reply.Opened m → n ≢ m
+opened-new s seat at n m user healthy is answer =
+    let t = found_at s at in
+    let event : Event = Open user in
+    let c = attempted t seat event in
+    let next : m ≡ t.last_session + 1 = outcome-turn (λ o. o.reply ≡ reply.Opened m → m ≡ t.last_session + 1) s seat event c (has_due s at || c.changed)
+    (λ settles r. next-number t (settled c.state) seat user c m (tried-is t seat event) r)
+    (λ still r. next-number t c.state seat user c m (tried-is t seat event) r) answer in
+    λ same. let most = given s seat n healthy at is in absurd (omega (arith, most, next, same))
+
+pub opened-fresh : (old new : Known) (at n m : ℕ) (user : Name) (answered : Answered) → Called old new at (Open user) answered → answered.reply ≡ reply.Opened m → SeesOpen old n → n ≢ m
+opened-fresh old new at n m user answered h =
+    called-turn (λ seat s r. r ≡ reply.Opened m → SeesOpen old n → n ≢ m) old new at (Open user) answered h
+    (λ r was. opened-new (state_of h.found) h.found.seat at n m user (sees-healthy old h.found h.sees) (open-sees old h.found n h.sees was) r)
+
+-- so a session that was opened can be held with all before it
+pub opened-held : (old new : Known) (at : ℕ) (user : Name) (answered : Answered) (hs : List Held) (g : Held) → Called old new at (Open user) answered → answered.reply ≡ reply.Opened g.session.number
+    → SeesOpen new g.session.number → g.session.granted ≡ false → g.grant ≡ None → AreHeld old hs → AreHeld new (hs ++ g ∷ [])
+opened-held old new at user answered hs g called answer opened granted free are =
+    more-held new hs g (all-go_on old new at (Open user) answered hs called tt refl are) (without-grant new g free granted opened)
+    (open-apart old g.session.number hs (λ n was. opened-fresh old new at n g.session.number user answered called answer was) are)

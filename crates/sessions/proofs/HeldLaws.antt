@@ -1,0 +1,198 @@
+-- What calls leave of the sessions that a script holds, and how their names find them.
+use Rattle.std.proofs.Common.{◌≡◌, ◌≢◌, ◌<◌, ℕ, ◌+◌, suc, Bool, true, not, ◌||◌, cond, nat_lt, List, [], ◌∷◌, ◌++◌, length, get_or, set, take, drop, remove, map, find, position, Some, None, refl, sym, ap, ◌∙◌, subst, arith}
+use Rattle.std.specs.Prelude.{option_map}
+use Rattle.std.specs.List.{list_any, prefix_len, position_or_len}
+use Rattle.std.proofs.Math.Seq.{drop-cons}
+use Rattle.std.proofs.lemmas.Bool.{false≢true}
+use Rattle.std.proofs.lemmas.List.{get_or-map, set_split, take-append-drop, take-map, drop-map, map-append, length-map}
+use Rattle.rm_base.specs.declared.entry.Answered.{Answered}
+use Rattle.rm_base.specs.declared.event.Event.{Event}
+use Rattle.rm_base.specs.declared.event.Event.TheVariants.{Finish, Close}
+use Rattle.rm_base.specs.declared.name.Name.{Name}
+use Rattle.rm_base.specs.Name.{same_name}
+use Rattle.rm_base.proofs.Names.{same_name-eq}
+use Rattle.rm_rules.specs.Replay.{IsFormed}
+use Rattle.rm_rules.proofs.Places.{position-within, position-is, find-found, without-found}
+use Rattle.rm_rules.proofs.Taken.{found_passes}
+use Rattle.sessions.specs.declared.held.Held.{Held}
+use Rattle.sessions.specs.Held.{named, names_of, IsHeld, AreApart, AreHeld}
+use Rattle.sessions.specs.Host.{Known, Called}
+use Rattle.sessions.specs.Running.{ends_nothing}
+use Rattle.sessions.specs.Session.{SeesOpen}
+use Rattle.sessions.specs.SessionNames.{Named, place_named, session_named, without_name}
+use Rattle.sessions.proofs.SessionLaws.{open-called, running-called}
+
+-- a held session goes on where a call ends neither it nor its query
+pub held-goes_on : (old new : Known) (at : ℕ) (event : Event) (answered : Answered) (h : Held) → Called old new at event answered → IsFormed event
+    → event ≢ Finish h.session.number → event ≢ Close h.session.number → IsHeld old h → IsHeld new h
+held-goes_on old new at event answered h called formed unfinished unclosed is = record {
+  opened = open-called old new at h.session.number event answered called formed unclosed is.opened;
+  told = is.told;
+  own = λ g there. let own = is.own g there in (own.0, running-called old new at g event answered called formed (λ same. unfinished (same ∙ ap Finish own.0)) own.1);
+}
+
+unended-finish : (event : Event) (n : ℕ) → ends_nothing event ≡ true → event ≢ Finish n
+unended-finish event n goes same = false≢true (sym (ap ends_nothing same) ∙ goes)
+
+unended-close : (event : Event) (n : ℕ) → ends_nothing event ≡ true → event ≢ Close n
+unended-close event n goes same = false≢true (sym (ap ends_nothing same) ∙ goes)
+
+-- so all of them do where it ends nothing
+pub all-go_on : (old new : Known) (at : ℕ) (event : Event) (answered : Answered) (hs : List Held) → Called old new at event answered → IsFormed event → ends_nothing event ≡ true
+    → AreHeld old hs → AreHeld new hs
+all-go_on old new at event answered [] called formed goes are = tt
+all-go_on old new at event answered (h ∷ hs) called formed goes are = (
+  held-goes_on old new at event answered h called formed (unended-finish event h.session.number goes) (unended-close event h.session.number goes) are.0,
+  are.1,
+  all-go_on old new at event answered hs called formed goes are.2,
+)
+
+-- an event for one session ends no other
+abbrev pub EndsAtMost : ℕ → Event → Type 0
+EndsAtMost n event = (m : ℕ) → m ≢ n → (event ≢ Finish m) × (event ≢ Close m)
+
+pub unending : (n : ℕ) (event : Event) → ends_nothing event ≡ true → EndsAtMost n event
+unending n event goes m differs = (unended-finish event m goes, unended-close event m goes)
+
+pub finish-ends : (n : ℕ) → EndsAtMost n (Finish n)
+finish-ends n m differs = (λ same. let e : n ≡ m = cc in differs (sym e), λ same. cc)
+
+pub close-ends : (n : ℕ) → EndsAtMost n (Close n)
+close-ends n m differs = (λ same. cc, λ same. let e : n ≡ m = cc in differs (sym e))
+
+-- what a call for one session leaves of others
+others-go_on : (old new : Known) (at : ℕ) (event : Event) (answered : Answered) (n : ℕ) (hs : List Held) → Called old new at event answered → IsFormed event → EndsAtMost n event
+    → AreApart n hs → AreHeld old hs → AreHeld new hs
+others-go_on old new at event answered n [] called formed other apart are = tt
+others-go_on old new at event answered n (h ∷ hs) called formed other apart are =
+    let unended = other h.session.number apart.0 in
+    (held-goes_on old new at event answered h called formed unended.0 unended.1 are.0, are.1, others-go_on old new at event answered n hs called formed other apart.1 are.2)
+
+apart-changed : (n : ℕ) (front back : List Held) (h g : Held) → named g ≡ named h → AreApart n (front ++ h ∷ back) → AreApart n (front ++ g ∷ back)
+apart-changed n [] back h g same apart = (λ is. apart.0 (sym (ap (λ (m : Named). m.session) same) ∙ is), apart.1)
+apart-changed n (f ∷ fs) back h g same apart = (apart.0, apart-changed n fs back h g same apart.1)
+
+apart-middle : (n : ℕ) (front back : List Held) (h : Held) → AreApart n (front ++ h ∷ back) → h.session.number ≢ n
+apart-middle n [] back h apart = apart.0
+apart-middle n (f ∷ fs) back h apart = apart-middle n fs back h apart.1
+
+apart-without : (n : ℕ) (front back : List Held) (h : Held) → AreApart n (front ++ h ∷ back) → AreApart n (front ++ back)
+apart-without n [] back h apart = apart.1
+apart-without n (f ∷ fs) back h apart = (apart.0, apart-without n fs back h apart.1)
+
+-- a call for the session that stands between these leaves them, and the session as it is then
+pub changed-held : (old new : Known) (at : ℕ) (event : Event) (answered : Answered) (front back : List Held) (h g : Held) → Called old new at event answered → IsFormed event
+    → EndsAtMost h.session.number event → named g ≡ named h → IsHeld new g → AreHeld old (front ++ h ∷ back) → AreHeld new (front ++ g ∷ back)
+changed-held old new at event answered [] back h g called formed other same is are =
+    let number = ap (λ (m : Named). m.session) same in
+    (is, subst (λ n. AreApart n back) (sym number) are.1, others-go_on old new at event answered h.session.number back called formed other are.1 are.2)
+changed-held old new at event answered (f ∷ fs) back h g called formed other same is are =
+    let unended = other f.session.number (λ e. apart-middle f.session.number fs back h are.1 (sym e)) in (
+      held-goes_on old new at event answered f called formed unended.0 unended.1 are.0,
+      apart-changed f.session.number fs back h g same are.1,
+      changed-held old new at event answered fs back h g called formed other same is are.2,
+    )
+
+-- and them alone, where the session is gone
+pub gone-held : (old new : Known) (at : ℕ) (event : Event) (answered : Answered) (front back : List Held) (h : Held) → Called old new at event answered → IsFormed event
+    → EndsAtMost h.session.number event → AreHeld old (front ++ h ∷ back) → AreHeld new (front ++ back)
+gone-held old new at event answered [] back h called formed other are = others-go_on old new at event answered h.session.number back called formed other are.1 are.2
+gone-held old new at event answered (f ∷ fs) back h called formed other are =
+    let unended = other f.session.number (λ e. apart-middle f.session.number fs back h are.1 (sym e)) in (
+      held-goes_on old new at event answered f called formed unended.0 unended.1 are.0,
+      apart-without f.session.number fs back h are.1,
+      gone-held old new at event answered fs back h called formed other are.2,
+    )
+
+pub middle-held : (k : Known) (front back : List Held) (h : Held) → AreHeld k (front ++ h ∷ back) → IsHeld k h
+middle-held k [] back h are = are.0
+middle-held k (f ∷ fs) back h are = middle-held k fs back h are.2
+
+-- a session more, with another number than all before it
+apart-more : (n : ℕ) (hs : List Held) (g : Held) → AreApart n hs → g.session.number ≢ n → AreApart n (hs ++ g ∷ [])
+apart-more n [] g apart differs = (differs, tt)
+apart-more n (h ∷ hs) g apart differs = (apart.0, apart-more n hs g apart.1 differs)
+
+pub more-held : (k : Known) (hs : List Held) (g : Held) → AreHeld k hs → IsHeld k g → AreApart g.session.number hs → AreHeld k (hs ++ g ∷ [])
+more-held k [] g are is apart = (is, tt, tt)
+more-held k (h ∷ hs) g are is apart = (are.0, apart-more h.session.number hs g are.1 (λ same. apart.0 (sym same)), more-held k hs g are.2 is apart.1)
+
+pub open-apart : (k : Known) (n : ℕ) (hs : List Held) → ((m : ℕ) → SeesOpen k m → m ≢ n) → AreHeld k hs → AreApart n hs
+open-apart k n [] fresh are = tt
+open-apart k n (h ∷ hs) fresh are = (fresh h.session.number are.0.opened, open-apart k n hs fresh are.2)
+
+-- what stands at a place
+pub parted : (hs : List Held) (place : ℕ) (d : Held) → place < length hs → hs ≡ take place hs ++ get_or hs place d ∷ drop (suc place) hs
+parted hs place d within = sym (take-append-drop place hs) ∙ ap (λ l. take place hs ++ l) (drop-cons hs place d within)
+
+pub set-held : (old new : Known) (at : ℕ) (event : Event) (answered : Answered) (hs : List Held) (place : ℕ) (d g : Held) → place < length hs → Called old new at event answered
+    → IsFormed event → EndsAtMost (get_or hs place d).session.number event → named g ≡ named (get_or hs place d) → IsHeld new g → AreHeld old hs → AreHeld new (set hs place g)
+set-held old new at event answered hs place d g within called formed other same is are =
+    subst (AreHeld new) (sym (set_split hs place g within))
+    (changed-held old new at event answered (take place hs) (drop (suc place) hs) (get_or hs place d) g called formed other same is
+    (subst (AreHeld old) (parted hs place d within) are))
+
+pub at-held : (k : Known) (hs : List Held) (place : ℕ) (d : Held) → place < length hs → AreHeld k hs → IsHeld k (get_or hs place d)
+at-held k hs place d within are = middle-held k (take place hs) (drop (suc place) hs) (get_or hs place d) (subst (AreHeld k) (parted hs place d within) are)
+
+-- the names of sessions, by their places
+prefix_len-map : {A B : Type 0} (p : B → Bool) (f : A → B) (xs : List A) → prefix_len p (map f xs) ≡ prefix_len (λ x. p (f x)) xs
+prefix_len-map p f [] = refl
+prefix_len-map p f (x ∷ xs) = ap (λ n. cond (p (f x)) (1 + n) 0) (prefix_len-map p f xs)
+
+pub position-map : {A B : Type 0} (p : B → Bool) (f : A → B) (xs : List A) → position p (map f xs) ≡ position (λ x. p (f x)) xs
+position-map p f xs =
+    ap (λ n. cond (nat_lt n (length (map f xs))) (Some n) None) (prefix_len-map (λ y. not (p y)) f xs)
+    ∙ ap (λ n. cond (nat_lt (position_or_len (λ x. p (f x)) xs) n) (Some (position_or_len (λ x. p (f x)) xs)) None) (length-map xs f)
+
+pub list_any-map : {A B : Type 0} (p : B → Bool) (f : A → B) (xs : List A) → list_any p (map f xs) ≡ list_any (λ x. p (f x)) xs
+list_any-map p f [] = refl
+list_any-map p f (x ∷ xs) = ap (λ b. p (f x) || b) (list_any-map p f xs)
+
+names-without : (hs : List Held) (place : ℕ) → remove (names_of hs) place ≡ names_of (remove hs place)
+names-without hs place =
+    ap (λ l. l ++ drop (suc place) (map named hs)) (take-map named place hs) ∙ ap (λ l. map named (take place hs) ++ l) (drop-map named (suc place) hs)
+    ∙ sym (map-append named (take place hs) (drop (suc place) hs))
+
+-- the session that has a name, by the name's place
+pub record IsNamed (hs : List Held) (name : Name) (place : ℕ) (h : Held) : Type 0 where
+  pub within : place < length hs
+  pub called : h.name ≡ name
+  pub session : session_named (names_of hs) name ≡ Some h.session.number
+  pub gone : without_name name (names_of hs) ≡ names_of (take place hs ++ drop (suc place) hs)
+
+pub is-named : (hs : List Held) (name : Name) (place : ℕ) (d : Held) → place_named (names_of hs) name ≡ Some place → IsNamed hs name place (get_or hs place d)
+is-named hs name place d found =
+    let test : Named → Bool = λ n. same_name n.name name in
+    let names = names_of hs in
+    let h = get_or hs place d in
+    let within : place < length hs = omega (arith, position-within test names place found, position-is test names place found, length-map hs named) in
+    let there : find test names ≡ Some (named h) = find-found test names place (named h) found (sym (get_or-map named hs place d (named h) within)) in
+    record {
+      within = within;
+      called = same_name-eq h.name name (found_passes test (named h) names there);
+      session = ap (option_map (λ (n : Named). n.session)) there;
+      gone = without-found test names place found ∙ names-without hs place;
+    }
+
+-- the session at the place that its name has
+pub found-at : (hs : List Held) (names : List Named) (session : Name) (place : ℕ) (x : Held) → names_of hs ≡ names → place_named names session ≡ Some place → x ≡ get_or hs place x
+    → IsNamed hs session place x
+found-at hs names session place x seen found at =
+    let found_there : place_named (names_of hs) session ≡ Some place = ap (λ (l : List Named). place_named l session) seen ∙ found in
+    let P : Held → Type 0 = IsNamed hs session place in
+    subst P (sym at) (is-named hs session place x found_there)
+
+pub held-at : (k : Known) (hs : List Held) (place : ℕ) (x : Held) → place < length hs → x ≡ get_or hs place x → AreHeld k hs → IsHeld k x
+held-at k hs place x within at are = subst (IsHeld k) (sym at) (at-held k hs place x within are)
+
+pub placed-held : (old new : Known) (at : ℕ) (event : Event) (answered : Answered) (hs : List Held) (place : ℕ) (x g : Held) → place < length hs → x ≡ get_or hs place x
+    → Called old new at event answered → IsFormed event → EndsAtMost x.session.number event → named g ≡ named x → IsHeld new g → AreHeld old hs → AreHeld new (set hs place g)
+placed-held old new at event answered hs place x g within there called formed other same is are =
+    set-held old new at event answered hs place x g within called formed (subst (λ (y : Held). EndsAtMost y.session.number event) there other) (same ∙ ap named there) is are
+
+pub removed-held : (old new : Known) (at : ℕ) (event : Event) (answered : Answered) (hs : List Held) (place : ℕ) (x : Held) → place < length hs → x ≡ get_or hs place x → Called old new at event answered
+    → IsFormed event → EndsAtMost x.session.number event → AreHeld old hs → AreHeld new (remove hs place)
+removed-held old new at event answered hs place x within there called formed other are =
+    let ends = subst (λ (y : Held). EndsAtMost y.session.number event) there other in
+    gone-held old new at event answered (take place hs) (drop (suc place) hs) (get_or hs place x) called formed ends (subst (AreHeld old) (parted hs place x within) are)

@@ -1,0 +1,61 @@
+-- The sessions that a script holds, each with its grant while one is out.
+use Rattle.std.specs.Prelude.{◌≡◌, ◌≢◌, ℕ, List, [], ◌∷◌, map, Option, Some, is_some, Result, Ok, Err}
+use Rattle.std.specs.Option.{ForSome}
+use Rattle.rm_base.specs.declared.name.Name.{Name}
+use Rattle.rm_base.specs.declared.refusal.Refusal.{Refusal}
+use Rattle.rm_base.specs.declared.reply.Reply.{Reply}
+use Rattle.rm_base.specs.declared.reply.Reply.TheVariants as reply
+use Rattle.sessions.specs.declared.held.Held.{Held}
+use Rattle.sessions.specs.declared.submitted.Submitted.{Submitted}
+use Rattle.sessions.specs.declared.submitted.Submitted.TheVariants.{Admitted, Waiting, Ended, Refused}
+use Rattle.sessions.specs.Granted.{Granted}
+use Rattle.sessions.specs.Host.{Known}
+use Rattle.sessions.specs.Session.{SeesOpen, HoldsGrant}
+use Rattle.sessions.specs.SessionNames.{Named}
+use Rattle.sessions.specs.Texts.{line_text, queued_text}
+
+-- a held session, by its name and its number
+abbrev pub named : Held → Named
+named h = record { name = h.name; session = h.session.number }
+
+abbrev pub names_of : List Held → List Named
+names_of held = map named held
+
+-- The session is open, it knows whether its grant is out, and the query runs to which that was given.
+pub record IsHeld (known : Known) (h : Held) : Type 0 where
+  pub opened : SeesOpen known h.session.number
+  pub told : h.session.granted ≡ is_some h.grant
+  pub own : ForSome h.grant (HoldsGrant known h.session.number)
+
+-- none of them has this number
+abbrev pub AreApart : ℕ → List Held → Type 0
+AreApart number [] = Unit {0}
+AreApart number (h ∷ hs) = (h.session.number ≢ number) × AreApart number hs
+
+-- each of them is held, and no two have one number
+abbrev pub AreHeld : Known → List Held → Type 0
+AreHeld known [] = Unit {0}
+AreHeld known (h ∷ hs) = IsHeld known h × AreApart h.session.number hs × AreHeld known hs
+
+-- the reply that told this, but for the number of the query, which is not printed
+abbrev pub printed : Submitted → Reply
+printed (Admitted grant account) = reply.Admitted 0 account.pool grant.bytes account.own account.borrowed
+printed (Waiting place) = reply.Waiting 0 place
+printed (Ended end) = reply.Ended end
+printed (Refused refusal) = reply.Refused refusal
+
+-- two replies print the same, to Submit and else
+abbrev pub PrintsAs : Reply → Reply → Type 0
+PrintsAs a b = (session : Name) → (line_text session a ≡ line_text session b) × (queued_text session a ≡ queued_text session b)
+
+-- the grant that is out after a reply to Submit or Poll, where this one was before
+abbrev pub grant_after : Submitted → Option Granted → Option Granted
+grant_after (Admitted grant account) held = Some grant
+grant_after (Waiting place) held = held
+grant_after (Ended end) held = held
+grant_after (Refused refusal) held = held
+
+-- the reply to Close
+abbrev pub closing_reply : Result (Unit {0}) (Held × Refusal) → Reply
+closing_reply (Ok done) = reply.Closed
+closing_reply (Err back) = reply.Refused back.1
