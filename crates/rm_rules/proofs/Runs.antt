@@ -1,5 +1,5 @@
 -- A session that runs: who opened it, how it goes on, and what it is told.
-use Rattle.std.proofs.Common.{◌≡◌, ℕ, ◌≤◌, Bool, true, false, ◌||◌, cond, not, eqb, leb, List, [], ◌∷◌, ◌++◌, Some, None, Option, Err, Result, inl, inr, ◌⊎◌, refl, sym, ap, ◌∙◌, subst, arith, count_by}
+use Rattle.std.proofs.Common.{◌≡◌, ℕ, ◌+◌, ◌≤◌, Bool, true, false, ◌||◌, cond, not, eqb, leb, length, List, [], ◌∷◌, ◌++◌, Some, None, Option, Err, Result, inl, inr, ◌⊎◌, refl, sym, ap, ◌∙◌, subst, arith, count_by}
 use Rattle.std.specs.Prelude.{◌≢◌, option_map, option_and_then}
 use Rattle.std.proofs.lemmas.Bool.{eqb-true, eq-eqb, false≢true}
 use Rattle.std.proofs.lemmas.Bool.Decides.{nat_tests}
@@ -18,10 +18,10 @@ use Rattle.rm_rules.specs.declared.state.Phase.TheVariants as phase
 use Rattle.rm_rules.specs.declared.state.Session.{Session}
 use Rattle.rm_rules.specs.declared.state.Waiter.{Waiter}
 use Rattle.rm_rules.specs.declared.state.Runner.{Runner}
-use Rattle.rm_rules.specs.State.{State, session_called, session_of, if_opened_by, session_pool, phase_of, with_phase, with_choice, without_session, is_running, is_ended}
-use Rattle.rm_rules.specs.Refusals.{refused_if, unless_refused}
+use Rattle.rm_rules.specs.State.{State, session_called, session_of, if_opened_by, session_pool, phase_of, with_phase, with_choice, without_session, is_idle, is_running, is_ended, live_queries}
+use Rattle.rm_rules.specs.Refusals.{refused_if, first_refusal, unless_refused, user_missing}
 use Rattle.rm_rules.specs.Settle.{settled}
-use Rattle.rm_rules.specs.Change.{Change, tried, new_session, submitted, finished, finishing, runner_of, grant_of}
+use Rattle.rm_rules.specs.Change.{Change, quiet, tried, new_session, usage_missing, size_refusal, journal_full, submitting, submitted, finished, finishing, runner_of, grant_of}
 use Rattle.rm_rules.specs.Answers.{told, told_in_phase, told_running, told_waiting, waiter_of, reply_of, answered}
 use Rattle.rm_rules.specs.Step.{moved_to, has_due, found_at, attempted, step}
 use Rattle.rm_rules.specs.Replay.{IsFormed, replay, IsLegal, own_entries}
@@ -301,6 +301,36 @@ finish-step s seat at session run h is =
     outcome-turn (λ o. o.reply ≡ reply.Released run.grant) s seat (Finish session) c (has_due s at || c.changed)
     (λ settles. ap (λ (d : Change). reply_of (settled d.state) d.answer) tries ∙ says)
     (λ still. ap (λ (d : Change). reply_of d.state d.answer) tries ∙ says)
+
+-- what runs is not idle
+runs-busy : (p : Phase) → is_running p ≡ true → is_idle p ≡ false
+runs-busy phase.Idle runs = absurd (false≢true runs)
+runs-busy phase.Waiting runs = refl
+runs-busy phase.Running runs = refl
+runs-busy (phase.Ended end) runs = refl
+
+-- so a Submit of a running session is refused
+submit-found : (t : State) (seat session floor : ℕ) (x : Session) → session_of t seat session ≡ Some x → is_running x.phase ≡ true
+    → attempted t seat (Submit session floor) ≡ quiet t (Says (reply.Refused refusal.SessionBusy))
+submit-found t seat session floor x found runs =
+    let d = t.definitions in
+    let pool = session_pool d x in
+    let more : List (Option Refusal) = user_missing d x.user ∷ usage_missing d x.user pool ∷ size_refusal d pool x.user floor ∷ journal_full t (live_queries t.sessions + 1) (length t.sessions) ∷ [] in
+    ap (λ (o : Option Session). let r : Result Change Refusal = elim o [ Some y ↦ submitting t floor y | None ↦ Err refusal.NoSuchSession ] in tried t r) found
+    ∙ ap (λ b. tried t (unless_refused (first_refusal (refused_if (not b) refusal.SessionBusy ∷ more)) (submitted t x pool floor))) (runs-busy x.phase runs)
+
+pub submit-step : (s : State) (seat at session floor : ℕ) (run : Run) → IsHealthy s → run_of s seat session ≡ Some run
+    → (step s seat at (Submit session floor)).reply ≡ reply.Refused refusal.SessionBusy
+submit-step s seat at session floor run h is =
+    let was = run-is s seat session run is in
+    let t = found_at s at in
+    let c = attempted t seat (Submit session floor) in
+    let runs : runner_of t.running session ≡ Some was.runner = ap (λ l. runner_of l session) (less-found s at).running ∙ was.runs in
+    let opener = runs-open t session seat was.runner (found-facts s at h).in_phase (owned-found_at s at session seat (owned-opened s seat session was.opener was.open_session)) runs in
+    let tries = submit-found t seat session floor opener.0 opener.1 opener.2 in
+    outcome-turn (λ o. o.reply ≡ reply.Refused refusal.SessionBusy) s seat (Submit session floor) c (has_due s at || c.changed)
+    (λ settles. ap (λ (d : Change). reply_of (settled d.state) d.answer) tries)
+    (λ still. ap (λ (d : Change). reply_of d.state d.answer) tries)
 
 -- a session that is told of a grant runs with it
 record IsToldRun (t : State) (n query grant : ℕ) : Type 0 where

@@ -8,6 +8,7 @@ ghost use Rattle.rm_base.specs.declared.event.Event.TheVariants.{Submit, Finish}
 ghost use Rattle.rm_base.specs.declared.limits.TheConstants.{CHANGES_MOST, ENTRIES_BEYOND};
 ghost use Rattle.rm_base.specs.declared.name.Name.{Name};
 ghost use Rattle.rm_base.specs.declared.refusal.Refusal.{Refusal};
+ghost use Rattle.rm_base.specs.declared.refusal.Refusal.TheVariants.{SessionBusy};
 ghost use Rattle.rm_base.specs.declared.reply.Reply.TheVariants.{Admitted, Released, Refused};
 ghost use Rattle.rm_rules.specs.declared.state.Waiter.{Waiter};
 ghost use Rattle.rm_rules.specs.Definitions.{pool_row};
@@ -77,6 +78,14 @@ pub fn running_sessions_can_be_finished()
         → IsHealthy s
         → run_of s seat session ≡ Some run
         → (step s seat at (Finish session)).reply ≡ Released run.grant }
+{}
+
+/// A session that runs has one query, and one grant: a further Submit of its own seat is refused as busy.
+pub fn running_sessions_are_busy()
+    ensures { (s : State) (seat at session floor : ℕ) (run : Run)
+        → IsHealthy s
+        → run_of s seat session ≡ Some run
+        → (step s seat at (Submit session floor)).reply ≡ Refused SessionBusy }
 {}
 
 /// Who is told that a session's query is admitted is told its number and its grant, with which it runs from then on.

@@ -34,12 +34,12 @@ pub trait Host {
         ensures looked { IfOk result (λ looked. looked ≡ looked_of (state_of (known self.new))) };
 }
 
-/// A desk has one seat, and nobody else acts on it.
+/// Over a desk a host is the first seat; nobody acts on the desk between its calls.
 impl Host for Desk {
     ghost known = { desk_known };
 
     fn call(&mut self, at: Moment, event: &Event) -> Answered {
-        // What every desk keeps, as the history's clauses say.
+        // For the proof alone: what every desk keeps, as the history's clauses say.
         let _entries = self.entries();
         self.apply(FIRST_SEAT, at, event)
     }
