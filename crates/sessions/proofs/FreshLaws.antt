@@ -50,7 +50,7 @@ opened-new s seat at n m user healthy is answer =
     (λ still r. next-number t c.state seat user c m (tried-is t seat event) r) answer in
     λ same. let most = given s seat n healthy at is in absurd (omega (arith, most, next, same))
 
-pub opened-fresh : (old new : Known) (at n m : ℕ) (user : Name) (answered : Answered) → Called old new at (Open user) answered → answered.reply ≡ reply.Opened m → SeesOpen old n → n ≢ m
+opened-fresh : (old new : Known) (at n m : ℕ) (user : Name) (answered : Answered) → Called old new at (Open user) answered → answered.reply ≡ reply.Opened m → SeesOpen old n → n ≢ m
 opened-fresh old new at n m user answered h =
     called-turn (λ seat s r. r ≡ reply.Opened m → SeesOpen old n → n ≢ m) old new at (Open user) answered h
     (λ r was. opened-new (state_of h.found) h.found.seat at n m user (sees-healthy old h.found h.sees) (open-sees old h.found n h.sees was) r)

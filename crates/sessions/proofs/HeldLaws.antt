@@ -48,7 +48,7 @@ all-go_on old new at event answered (h ∷ hs) called formed goes are = (
 )
 
 -- an event for one session ends no other
-abbrev pub EndsAtMost : ℕ → Event → Type 0
+abbrev EndsAtMost : ℕ → Event → Type 0
 EndsAtMost n event = (m : ℕ) → m ≢ n → (event ≢ Finish m) × (event ≢ Close m)
 
 pub unending : (n : ℕ) (event : Event) → ends_nothing event ≡ true → EndsAtMost n event
@@ -81,7 +81,7 @@ apart-without n [] back h apart = apart.1
 apart-without n (f ∷ fs) back h apart = (apart.0, apart-without n fs back h apart.1)
 
 -- a call for the session that stands between these leaves them, and the session as it is then
-pub changed-held : (old new : Known) (at : ℕ) (event : Event) (answered : Answered) (front back : List Held) (h g : Held) → Called old new at event answered → IsFormed event
+changed-held : (old new : Known) (at : ℕ) (event : Event) (answered : Answered) (front back : List Held) (h g : Held) → Called old new at event answered → IsFormed event
     → EndsAtMost h.session.number event → named g ≡ named h → IsHeld new g → AreHeld old (front ++ h ∷ back) → AreHeld new (front ++ g ∷ back)
 changed-held old new at event answered [] back h g called formed other same is are =
     let number = ap (λ (m : Named). m.session) same in
@@ -94,7 +94,7 @@ changed-held old new at event answered (f ∷ fs) back h g called formed other s
     )
 
 -- and them alone, where the session is gone
-pub gone-held : (old new : Known) (at : ℕ) (event : Event) (answered : Answered) (front back : List Held) (h : Held) → Called old new at event answered → IsFormed event
+gone-held : (old new : Known) (at : ℕ) (event : Event) (answered : Answered) (front back : List Held) (h : Held) → Called old new at event answered → IsFormed event
     → EndsAtMost h.session.number event → AreHeld old (front ++ h ∷ back) → AreHeld new (front ++ back)
 gone-held old new at event answered [] back h called formed other are = others-go_on old new at event answered h.session.number back called formed other are.1 are.2
 gone-held old new at event answered (f ∷ fs) back h called formed other are =
@@ -104,7 +104,7 @@ gone-held old new at event answered (f ∷ fs) back h called formed other are =
       gone-held old new at event answered fs back h called formed other are.2,
     )
 
-pub middle-held : (k : Known) (front back : List Held) (h : Held) → AreHeld k (front ++ h ∷ back) → IsHeld k h
+middle-held : (k : Known) (front back : List Held) (h : Held) → AreHeld k (front ++ h ∷ back) → IsHeld k h
 middle-held k [] back h are = are.0
 middle-held k (f ∷ fs) back h are = middle-held k fs back h are.2
 
@@ -120,20 +120,6 @@ more-held k (h ∷ hs) g are is apart = (are.0, apart-more h.session.number hs g
 pub open-apart : (k : Known) (n : ℕ) (hs : List Held) → ((m : ℕ) → SeesOpen k m → m ≢ n) → AreHeld k hs → AreApart n hs
 open-apart k n [] fresh are = tt
 open-apart k n (h ∷ hs) fresh are = (fresh h.session.number are.0.opened, open-apart k n hs fresh are.2)
-
--- what stands at a place
-pub parted : (hs : List Held) (place : ℕ) (d : Held) → place < length hs → hs ≡ take place hs ++ get_or hs place d ∷ drop (suc place) hs
-parted hs place d within = sym (take-append-drop place hs) ∙ ap (λ l. take place hs ++ l) (drop-cons hs place d within)
-
-pub set-held : (old new : Known) (at : ℕ) (event : Event) (answered : Answered) (hs : List Held) (place : ℕ) (d g : Held) → place < length hs → Called old new at event answered
-    → IsFormed event → EndsAtMost (get_or hs place d).session.number event → named g ≡ named (get_or hs place d) → IsHeld new g → AreHeld old hs → AreHeld new (set hs place g)
-set-held old new at event answered hs place d g within called formed other same is are =
-    subst (AreHeld new) (sym (set_split hs place g within))
-    (changed-held old new at event answered (take place hs) (drop (suc place) hs) (get_or hs place d) g called formed other same is
-    (subst (AreHeld old) (parted hs place d within) are))
-
-pub at-held : (k : Known) (hs : List Held) (place : ℕ) (d : Held) → place < length hs → AreHeld k hs → IsHeld k (get_or hs place d)
-at-held k hs place d within are = middle-held k (take place hs) (drop (suc place) hs) (get_or hs place d) (subst (AreHeld k) (parted hs place d within) are)
 
 -- the names of sessions, by their places
 prefix_len-map : {A B : Type 0} (p : B → Bool) (f : A → B) (xs : List A) → prefix_len p (map f xs) ≡ prefix_len (λ x. p (f x)) xs
@@ -161,38 +147,35 @@ pub record IsNamed (hs : List Held) (name : Name) (place : ℕ) (h : Held) : Typ
   pub session : session_named (names_of hs) name ≡ Some h.session.number
   pub gone : without_name name (names_of hs) ≡ names_of (take place hs ++ drop (suc place) hs)
 
-pub is-named : (hs : List Held) (name : Name) (place : ℕ) (d : Held) → place_named (names_of hs) name ≡ Some place → IsNamed hs name place (get_or hs place d)
-is-named hs name place d found =
+pub found-at : (hs : List Held) (names : List Named) (name : Name) (place : ℕ) (x : Held) → names_of hs ≡ names → place_named names name ≡ Some place → x ≡ get_or hs place x → IsNamed hs name place x
+found-at hs names name place x seen found at =
     let test : Named → Bool = λ n. same_name n.name name in
-    let names = names_of hs in
-    let h = get_or hs place d in
-    let within : place < length hs = omega (arith, position-within test names place found, position-is test names place found, length-map hs named) in
-    let there : find test names ≡ Some (named h) = find-found test names place (named h) found (sym (get_or-map named hs place d (named h) within)) in
+    let placed : position test (names_of hs) ≡ Some place = ap (λ (l : List Named). place_named l name) seen ∙ found in
+    let within : place < length hs = omega (arith, position-within test (names_of hs) place placed, position-is test (names_of hs) place placed, length-map hs named) in
+    let there : find test (names_of hs) ≡ Some (named x) =
+    find-found test (names_of hs) place (named x) placed (ap named at ∙ sym (get_or-map named hs place x (named x) within)) in
     record {
       within = within;
-      called = same_name-eq h.name name (found_passes test (named h) names there);
+      called = same_name-eq x.name name (found_passes test (named x) (names_of hs) there);
       session = ap (option_map (λ (n : Named). n.session)) there;
-      gone = without-found test names place found ∙ names-without hs place;
+      gone = without-found test (names_of hs) place placed ∙ names-without hs place;
     }
 
--- the session at the place that its name has
-pub found-at : (hs : List Held) (names : List Named) (session : Name) (place : ℕ) (x : Held) → names_of hs ≡ names → place_named names session ≡ Some place → x ≡ get_or hs place x
-    → IsNamed hs session place x
-found-at hs names session place x seen found at =
-    let found_there : place_named (names_of hs) session ≡ Some place = ap (λ (l : List Named). place_named l session) seen ∙ found in
-    let P : Held → Type 0 = IsNamed hs session place in
-    subst P (sym at) (is-named hs session place x found_there)
+-- what each call leaves of the session at a place, and of the others
+middle : (hs : List Held) (place : ℕ) (x : Held) → place < length hs → x ≡ get_or hs place x → hs ≡ take place hs ++ x ∷ drop (suc place) hs
+middle hs place x within at =
+    sym (take-append-drop place hs) ∙ ap (λ l. take place hs ++ l) (drop-cons hs place x within) ∙ ap (λ y. take place hs ++ y ∷ drop (suc place) hs) (sym at)
 
 pub held-at : (k : Known) (hs : List Held) (place : ℕ) (x : Held) → place < length hs → x ≡ get_or hs place x → AreHeld k hs → IsHeld k x
-held-at k hs place x within at are = subst (IsHeld k) (sym at) (at-held k hs place x within are)
+held-at k hs place x within at are = middle-held k (take place hs) (drop (suc place) hs) x (subst (AreHeld k) (middle hs place x within at) are)
 
 pub placed-held : (old new : Known) (at : ℕ) (event : Event) (answered : Answered) (hs : List Held) (place : ℕ) (x g : Held) → place < length hs → x ≡ get_or hs place x
     → Called old new at event answered → IsFormed event → EndsAtMost x.session.number event → named g ≡ named x → IsHeld new g → AreHeld old hs → AreHeld new (set hs place g)
 placed-held old new at event answered hs place x g within there called formed other same is are =
-    set-held old new at event answered hs place x g within called formed (subst (λ (y : Held). EndsAtMost y.session.number event) there other) (same ∙ ap named there) is are
+    subst (AreHeld new) (sym (set_split hs place g within))
+    (changed-held old new at event answered (take place hs) (drop (suc place) hs) x g called formed other same is (subst (AreHeld old) (middle hs place x within there) are))
 
 pub removed-held : (old new : Known) (at : ℕ) (event : Event) (answered : Answered) (hs : List Held) (place : ℕ) (x : Held) → place < length hs → x ≡ get_or hs place x → Called old new at event answered
     → IsFormed event → EndsAtMost x.session.number event → AreHeld old hs → AreHeld new (remove hs place)
 removed-held old new at event answered hs place x within there called formed other are =
-    let ends = subst (λ (y : Held). EndsAtMost y.session.number event) there other in
-    gone-held old new at event answered (take place hs) (drop (suc place) hs) (get_or hs place x) called formed ends (subst (AreHeld old) (parted hs place x within) are)
+    gone-held old new at event answered (take place hs) (drop (suc place) hs) x called formed other (subst (AreHeld old) (middle hs place x within there) are)

@@ -80,7 +80,7 @@ polled-held old new at event answered h (Refused refusal) called formed unfinish
     without-grant new (record { name = h.name; session = record h.session { granted = false }; grant = None }) refl refl (held-goes_on old new at event answered h called formed unfinished unclosed is).opened
 
 -- Close while a grant is out: the query runs on, so it is refused
-pub busy-runs : (old new : Known) (at : ℕ) (answered : Answered) (h : Held) (grant : Granted) → Called old new at (Close h.session.number) answered → h.grant ≡ Some grant → IsHeld old h
+busy-runs : (old new : Known) (at : ℕ) (answered : Answered) (h : Held) (grant : Granted) → Called old new at (Close h.session.number) answered → h.grant ≡ Some grant → IsHeld old h
     → HoldsGrant new h.session.number grant
 busy-runs old new at answered h grant called is held =
     let own = held.own grant is in (own.0, running-called old new at grant (Close h.session.number) answered called tt (λ same. cc) own.1)

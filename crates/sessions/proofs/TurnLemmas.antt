@@ -50,7 +50,7 @@ does-request s t session number request event print r text found one state print
     ap (λ (l : List ℕ). Goes l t) (is ∙ prints) ∙ ap (Goes (print o.reply)) state ∙ sym one ∙ ap (session_turn s session request) (sym found)
 
 -- Close, by its reply
-pub does-close : (s t : ScriptState) (session : Name) (number : ℕ) (r : Reply) (text : List ℕ) → session_named s.names session ≡ Some number
+does-close : (s t : ScriptState) (session : Name) (number : ℕ) (r : Reply) (text : List ℕ) → session_named s.names session ≡ Some number
     → r ≡ (step s.machine 0 s.moment (event.Close number)).reply → t ≡ after_close (let u : ScriptState = record s { machine = (step s.machine 0 s.moment (event.Close number)).state } in u) session r
     → text ≡ line_text session r → DoesRequest s t session Close text
 does-close s t session number r text found replied state is =
@@ -60,7 +60,7 @@ does-close s t session number r text found replied state is =
     ∙ ap (session_turn s session Close) (sym found)
 
 -- the session that stands at a place may change, and comes back there
-pub names-set : (hs : List Held) (place : ℕ) (h g : Held) → h ≡ get_or hs place h → named g ≡ named h → names_of (set hs place g) ≡ names_of hs
+names-set : (hs : List Held) (place : ℕ) (h g : Held) → h ≡ get_or hs place h → named g ≡ named h → names_of (set hs place g) ≡ names_of hs
 names-set hs place h g at same = map-set_same named hs place g h (same ∙ ap named at)
 
 -- what was taken out of its place and changed comes back there
