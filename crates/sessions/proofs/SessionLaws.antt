@@ -1,10 +1,12 @@
 -- What a call of a session is answered, and what it leaves of the sessions of its host.
-use Rattle.std.proofs.Common.{◌≡◌, ◌≢◌, ℕ, true, Some, sym, ap, subst}
+use Rattle.std.proofs.Common.{◌≡◌, ◌≢◌, ℕ, true, Some, sym, ap, ◌∙◌, subst}
 use Rattle.std.specs.Option.{is_some}
 use Rattle.rm_base.specs.declared.entry.Answered.{Answered}
 use Rattle.rm_base.specs.declared.event.Event.{Event}
-use Rattle.rm_base.specs.declared.event.Event.TheVariants.{Open, Poll, Finish, Close}
+use Rattle.rm_base.specs.declared.event.Event.TheVariants.{Open, Submit, Poll, Finish, Close}
 use Rattle.rm_base.specs.declared.name.Name.{Name}
+use Rattle.rm_base.specs.declared.refusal.Refusal.{Refusal}
+use Rattle.rm_base.specs.declared.refusal.Refusal.TheVariants.{SessionBusy}
 use Rattle.rm_base.specs.declared.reply.Reply.{Reply}
 use Rattle.rm_base.specs.declared.reply.Reply.TheVariants as reply
 use Rattle.rm_rules.specs.State.{State}
@@ -12,7 +14,7 @@ use Rattle.rm_rules.specs.Replay.{IsFormed}
 use Rattle.rm_rules.specs.Sessions.{session_in}
 use Rattle.rm_rules.specs.Grants.{Run, run_of}
 use Rattle.rm_rules.proofs.Laws.{IsKeptByOthers}
-use Rattle.rm_rules.proofs.Runs.{run-is, runs-on, finish-step, told-step}
+use Rattle.rm_rules.proofs.Runs.{run-is, runs-on, finish-step, submit-step, told-step}
 use Rattle.sessions.specs.declared.submitted.Submitted.{Submitted}
 use Rattle.sessions.specs.declared.submitted.Submitted.TheVariants.{Admitted, Waiting, Ended, Refused}
 use Rattle.sessions.specs.Granted.{Granted}
@@ -100,6 +102,27 @@ finish-reply old new at n g answered h (own, is) =
     called-turn (λ seat s r. r ≡ reply.Released g.bytes) old new at (Finish n) answered h
     (finish-step (state_of h.found) h.found.seat at n (run_with g) (sees-healthy old h.found h.sees)
     (subst (λ k. run_of (state_of h.found) h.found.seat k ≡ Some (run_with g)) own (running-sees old h.found g h.sees is)))
+
+-- while it holds its grant it gets no second one
+submit-reply : (old new : Known) (at n floor : ℕ) (g : Granted) (answered : Answered) → Called old new at (Submit n floor) answered → HoldsGrant old n g
+    → answered.reply ≡ reply.Refused SessionBusy
+submit-reply old new at n floor g answered h (own, is) =
+    called-turn (λ seat s r. r ≡ reply.Refused SessionBusy) old new at (Submit n floor) answered h
+    (submit-step (state_of h.found) h.found.seat at n floor (run_with g) (sees-healthy old h.found h.sees)
+    (subst (λ k. run_of (state_of h.found) h.found.seat k ≡ Some (run_with g)) own (running-sees old h.found g h.sees is)))
+
+told-refused : (n : ℕ) (submitted : Submitted) (answer : Reply) (r : Refusal) → IsTold n submitted answer → answer ≡ reply.Refused r → submitted ≡ Refused r
+told-refused n (Admitted grant account) answer r (own, told) is =
+    absurd (let no : reply.Admitted grant.query account.pool grant.bytes account.own account.borrowed ≡ reply.Refused r = sym told ∙ is in cc)
+told-refused n (Waiting place) answer r (query, told) is = absurd (let no : reply.Waiting query place ≡ reply.Refused r = sym told ∙ is in cc)
+told-refused n (Ended end) answer r told is = absurd (let no : reply.Ended end ≡ reply.Refused r = sym told ∙ is in cc)
+told-refused n (Refused other) answer r told is =
+    let same : other ≡ r = (let both : reply.Refused other ≡ reply.Refused r = sym told ∙ is in cc) in
+    ap (λ x. let said : Submitted = Refused x in said) same
+
+pub submit-busy : (old new : Known) (at n floor : ℕ) (g : Granted) (answered : Answered) (submitted : Submitted) → Called old new at (Submit n floor) answered → IsTold n submitted answered.reply
+    → HoldsGrant old n g → submitted ≡ Refused SessionBusy
+submit-busy old new at n floor g answered submitted h told holds = told-refused n submitted answered.reply SessionBusy told (submit-reply old new at n floor g answered h holds)
 
 pub close-reply : (old new : Known) (at m n : ℕ) (answered : Answered) → m ≡ n → Called old new at (Close m) answered → SeesOpen old n → AnswersClose new.seat n (state_of new) answered.reply
 close-reply old new at m n answered same called was =

@@ -73,6 +73,8 @@ impl Session {
         ensures call { CallsOnce (H.known host.old) (H.known host.new) at (Event.Submit self.old.number floor)
             (IsTold self.old.number result) }
         ensures grant { IfAdmitted result (HoldsGrant (H.known host.new) self.old.number) }
+        ensures busy { (grant : Granted) → HoldsGrant (H.known host.old) self.old.number grant
+            → result ≡ Submitted.Refused Refusal.SessionBusy }
         ensures session { self.new ≡ record self.old { granted = self.old.granted || is_admitted result } }
         ensures open { SeesOpen (H.known host.old) self.old.number → SeesOpen (H.known host.new) self.old.number }
     {

@@ -1,6 +1,8 @@
-use Rattle.std.proofs.Common.{Some, refl, ap}
+use Rattle.std.proofs.Common.{Some, refl, ap, subst}
+use Rattle.rm_base.specs.declared.event.Event.TheVariants.{Submit}
 use Rattle.sessions.specs.Granted.{SessionState}
-use Rattle.sessions.proofs.SessionLaws.{asking-reply, told-grant, open-called}
+use Rattle.sessions.specs.Host.{Called}
+use Rattle.sessions.proofs.SessionLaws.{asking-reply, told-grant, submit-busy, open-called}
 use Rattle.sessions.proofs.session.Session.submit.Goals as goal
 
 pub told-requires : goal.told-requires
@@ -10,6 +12,13 @@ pub returns-clause-grant : goal.returns-clause-grant
 returns-clause-grant g c =
     told-grant _ _ c.args.at c.args.self.now.number _ c.call-answered.result c.told.result c.call-answered.ensures
     (ap (λ (s : SessionState). Some s.number) c.self.view_is) c.told.ensures.told
+
+pub returns-clause-busy : goal.returns-clause-busy
+returns-clause-busy g c grant =
+    let called = subst
+    (λ (s : SessionState). Called (g.H.Host.known c.args.host.now) (g.H.Host.known c.call-answered.new.self) c.args.at (Submit s.number c.args.floor) c.call-answered.result)
+    c.self.view_is c.call-answered.ensures in
+    submit-busy _ _ c.args.at c.args.self.now.number c.args.floor grant c.call-answered.result c.told.result called c.told.ensures.told
 
 pub returns-clause-open : goal.returns-clause-open
 returns-clause-open g c = open-called _ _ c.args.at c.args.self.now.number _ c.call-answered.result c.call-answered.ensures tt (λ e. cc)
