@@ -1,16 +1,15 @@
 -- How a script's lines run and end.
 use Rattle.std.proofs.Common.{◌≡◌, ℕ, ◌+◌, ◌≤◌, ◌<◌, List, [], ◌∷◌, ◌++◌, length, Option, Some, None, Result, Ok, Err, refl, sym, ap, ◌∙◌, subst, arith, append_assoc, append-nil}
-use Rattle.std.specs.Prelude.{OnOk, IfErr}
+use Rattle.std.specs.Prelude.{IfErr}
 use Rattle.std.specs.Io.KnownBytes.{Appends, Keeps}
-use Rattle.std.proofs.KnownBytes.{Appends-trans, Appends-nil}
+use Rattle.std.proofs.KnownBytes.{Appends-trans}
 use Rattle.std.specs.Str.Lines.{lines}
 use Rattle.sessions.specs.declared.failure.Failure.{Failure}
 use Rattle.sessions.specs.declared.failure.Failure.TheVariants.{Usage, BadLine, ReadFault, WriteFault, Memory, TooLong}
-use Rattle.sessions.specs.Running.{IsLineFault, LinesEnded, WentOn, EndedAt}
+use Rattle.sessions.specs.Running.{LinesEnded, WentOn, EndedAt}
 use Rattle.sessions.specs.Script.{ScriptEnd, after_text, turn_end, line_turn, lines_end}
-use Rattle.sessions.specs.Texts.{bad_text}
 use Rattle.sessions.specs.Transfers.{WroteFront, ExplainsOutput}
-use Rattle.sessions.specs.Turns.{ScriptState, Bad, Goes}
+use Rattle.sessions.specs.Turns.{ScriptState, Goes}
 use Rattle.sessions.specs.World.{Seen}
 
 -- nothing of a text was written
