@@ -8,12 +8,12 @@ use Rattle.rm_base.specs.declared.name.Name.{Name}
 use Rattle.rm_base.specs.Name.{same_name}
 use Rattle.rm_base.proofs.Names.{same_name-refl}
 use Rattle.rm_rules.specs.declared.state.Reserve.{Reserve}
-use Rattle.rm_rules.specs.Definitions.{pool_called, user_pools, memory_of}
-use Rattle.rm_rules.specs.Holdings.{reserve, reserves_of}
+use Rattle.rm_rules.specs.Definitions.{pool_called, user_pools, memory_size}
+use Rattle.rm_rules.specs.Holdings.{reserve, reserves_of, reserve_names}
 use Rattle.rm_rules.specs.Sound.{IsSound, are_distinct}
 use Rattle.rm_rules.proofs.Taken.{and_left, and_right, or_left_false, or_right_false, not_false}
 use Rattle.rm_rules.proofs.Pools.{names}
-use Rattle.accounts.specs.Accounts.{names_in, names_of}
+use Rattle.accounts.specs.Accounts.{names_in}
 
 -- a list that is changed from its front on, one place further: what is left to do is done to the rest
 pub in_place : {A : Type 0} (f g : List A → List A) (xs all : List A) (i : ℕ) (x y : A) → i < length xs → x ≡ get_or xs i x
@@ -37,9 +37,9 @@ all_done f xs all i past none so_far =
     ∙ so_far
 
 -- another size leaves the names
-pub names-set : (es : List Reserve) (i : ℕ) (e new : Reserve) → i < length es → e ≡ get_or es i e → new.pool ≡ e.pool → names_of (set es i new) ≡ names_of es
+pub names-set : (es : List Reserve) (i : ℕ) (e new : Reserve) → i < length es → e ≡ get_or es i e → new.pool ≡ e.pool → reserve_names (set es i new) ≡ reserve_names es
 names-set [] i e new within at same = refl
-names-set (x ∷ xs) zero e new within at same = ap (λ n. n ∷ names_of xs) (same ∙ ap (λ (r : Reserve). r.pool) at)
+names-set (x ∷ xs) zero e new within at same = ap (λ n. n ∷ reserve_names xs) (same ∙ ap (λ (r : Reserve). r.pool) at)
 names-set (x ∷ xs) (suc i) e new within at same = ap (λ ns. x.pool ∷ ns) (names-set xs i e new (omega arith) at same)
 
 -- of distinct names the row in a place is found by its name
@@ -71,7 +71,7 @@ behind-general [] i row distinct within at = absurd (omega arith)
 behind-general (r ∷ rs) i row distinct within at = called-at (r ∷ rs) (suc i) row distinct (omega arith) at
 
 -- what stands in one place has one name
-name-at : (rows : List PoolRow) (es : List Reserve) (i : ℕ) (row : PoolRow) (e : Reserve) → names rows ≡ names_of es → i < length rows → row ≡ get_or rows i row → e ≡ get_or es i e
+name-at : (rows : List PoolRow) (es : List Reserve) (i : ℕ) (row : PoolRow) (e : Reserve) → names rows ≡ reserve_names es → i < length rows → row ≡ get_or rows i row → e ≡ get_or es i e
     → e.pool ≡ row.name
 name-at [] es i row e same within at_row at_e = absurd (omega arith)
 name-at (r ∷ rs) [] i row e same within at_row at_e = let none : r.name ∷ names rs ≡ [] = same in absurd (cc)
@@ -79,22 +79,22 @@ name-at (r ∷ rs) (x ∷ xs) zero row e same within at_row at_e =
     let first : r.name ≡ x.pool = cc in
     ap (λ (y : Reserve). y.pool) at_e ∙ sym first ∙ sym (ap (λ (y : PoolRow). y.name) at_row)
 name-at (r ∷ rs) (x ∷ xs) (suc i) row e same within at_row at_e =
-    let rest : names rs ≡ names_of xs = cc in
+    let rest : names rs ≡ reserve_names xs = cc in
     name-at rs xs i row e rest (omega arith) at_row at_e
 
 -- The MEMORYSIZE of a reserve's pool is that of the row in the same place.
-pub memory-at : (d : Definitions) (rows : List PoolRow) (es : List Reserve) (i : ℕ) (row : PoolRow) (e : Reserve) → IsSound d → rows ≡ user_pools d.pools → names_in d ≡ names_of es
-    → i < length rows → row ≡ get_or rows i row → e ≡ get_or es i e → row.memory ≡ memory_of d e.pool
+pub memory-at : (d : Definitions) (rows : List PoolRow) (es : List Reserve) (i : ℕ) (row : PoolRow) (e : Reserve) → IsSound d → rows ≡ user_pools d.pools → names_in d ≡ reserve_names es
+    → i < length rows → row ≡ get_or rows i row → e ≡ get_or es i e → row.memory ≡ memory_size d e.pool
 memory-at d rows es i row e sound is same within at_row at_e =
     let inside : i < length (user_pools d.pools) = omega (arith, ap (λ (l : List PoolRow). length l) is) in
     let at : row ≡ get_or (user_pools d.pools) i row = at_row ∙ ap (λ (l : List PoolRow). get_or l i row) is in
     let name = name-at (user_pools d.pools) es i row e same inside at at_e in
     let called : pool_called d.pools e.pool ≡ Some row = ap (pool_called d.pools) name ∙ behind-general d.pools i row sound.pools_distinct inside at in
-    let found : memory_of d e.pool ≡ row.memory = rw (called, memory_of) refl in
+    let found : memory_size d e.pool ≡ row.memory = rw (called, memory_size) refl in
     sym found
 
 -- there is a reserve in each place
-pub lengths-same : (d : Definitions) (rows : List PoolRow) (es : List Reserve) → rows ≡ user_pools d.pools → names_in d ≡ names_of es → length es ≡ length rows
+pub lengths-same : (d : Definitions) (rows : List PoolRow) (es : List Reserve) → rows ≡ user_pools d.pools → names_in d ≡ reserve_names es → length es ≡ length rows
 lengths-same d rows es is same =
     sym (length-map es (λ (e : Reserve). e.pool))
     ∙ ap (λ (l : List Name). length l) (sym same)

@@ -11,20 +11,20 @@ use Rattle.rm_rules.specs.declared.state.Reserve.{Reserve}
 use Rattle.rm_rules.specs.declared.state.Runner.{Runner}
 use Rattle.rm_rules.specs.Definitions.{user_pools}
 use Rattle.rm_rules.specs.State.{State, without_runner}
-use Rattle.rm_rules.specs.Holdings.{Holdings, holding, holdings, reserves_of, holdings_of}
+use Rattle.rm_rules.specs.Holdings.{Holdings, holding, holdings, reserves_of, holdings_of, reserve_names}
 use Rattle.rm_rules.specs.Accounting.{account_behind}
 use Rattle.rm_rules.specs.Sound.{IsSound, has_pool}
 use Rattle.rm_rules.specs.Healthy.{AreSized}
 use Rattle.rm_rules.proofs.Bytes.{reserve_names-of, sizes-of, reserves-again}
 use Rattle.rm_rules.proofs.Once.{is-itself, find-single, before-single, without-map, without-same}
 use Rattle.rm_rules.proofs.Pools.{sum_by-map, is_called, pool_names}
-use Rattle.accounts.specs.Accounts.{names_in, names_of, is_of, has_name, has_query, grant_of, no_account, account_of, taken, given_back, with_pool}
+use Rattle.accounts.specs.Accounts.{names_in, is_of, has_name, has_query, grant_of, no_account, account_of, taken, given_back, with_pool}
 
 abbrev pub IsSized : State → Type 0
 IsSized s = AreSized s.definitions s.actual s.counters
 
 -- the pools
-pub names-stand : (s : State) → IsSized s → names_of (holdings_of s).reserves ≡ names_in s.definitions
+pub names-stand : (s : State) → IsSized s → reserve_names (holdings_of s).reserves ≡ names_in s.definitions
 names-stand s sized = reserve_names-of (user_pools s.definitions.pools) s.actual sized.sizes
 
 pub pools-stand : (s : State) (pool : Name) → IsSound s.definitions → IsSized s → has_name (holdings_of s).reserves pool ≡ has_pool s.definitions pool
@@ -50,7 +50,7 @@ pub added-stand : (s : State) (d : Definitions) (pool : Name) → IsSized s → 
 added-stand s d pool sized same =
     let old = (holdings_of s).reserves in
     let x : Reserve = record { pool = pool; size = 0 } in
-    let named : names_of (old ++ x ∷ []) ≡ names_in d =
+    let named : reserve_names (old ++ x ∷ []) ≡ names_in d =
     map-append (λ (e : Reserve). e.pool) old (x ∷ []) ∙ ap (λ (ns : List Name). ns ++ pool ∷ []) (names-stand s sized) ∙ sym same in
     let sizes : map (λ (e : Reserve). e.size) (old ++ x ∷ []) ≡ s.actual ++ 0 ∷ [] =
     map-append (λ (e : Reserve). e.size) old (x ∷ []) ∙ ap (λ (ns : List ℕ). ns ++ 0 ∷ []) (sizes-of (user_pools s.definitions.pools) s.actual sized.sizes) in

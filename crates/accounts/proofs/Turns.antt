@@ -8,7 +8,8 @@ use Rattle.rm_rules.specs.Definitions.{user_pools}
 use Rattle.rm_rules.specs.Accounting.{debt}
 use Rattle.rm_rules.specs.Shuffle.{resized, fallen_size, growth, grown_reserves}
 use Rattle.rm_rules.specs.Sound.{IsSound}
-use Rattle.accounts.specs.Accounts.{names_in, names_of}
+use Rattle.rm_rules.specs.Holdings.{reserve_names}
+use Rattle.accounts.specs.Accounts.{names_in}
 use Rattle.accounts.specs.Sizes.{fallen_to, growth_to, fallen_reserves}
 use Rattle.accounts.proofs.Places.{in_place, names-set, memory-at, lengths-same}
 
@@ -16,7 +17,7 @@ use Rattle.accounts.proofs.Places.{in_place, names-set, memory-at, lengths-same}
 pub record IsTurn (d : Definitions) (rows : List PoolRow) (es new : List Reserve) (i : ℕ) (row : PoolRow) (e : Reserve) (size : ℕ) : Type 0 where
   pub sound : IsSound d
   pub rows_are : rows ≡ user_pools d.pools
-  pub same : names_in d ≡ names_of es
+  pub same : names_in d ≡ reserve_names es
   pub within : i < length rows
   pub at_row : row ≡ get_or rows i row
   pub at : e ≡ get_or es i e
@@ -26,9 +27,9 @@ inside : (d : Definitions) (rows : List PoolRow) (es new : List Reserve) (i : �
 inside d rows es new i row e size t = omega (arith, lengths-same d rows es t.rows_are t.same, t.within)
 
 pub turn-names : (d : Definitions) (rows : List PoolRow) (es new : List Reserve) (i : ℕ) (row : PoolRow) (e : Reserve) (size : ℕ) → IsTurn d rows es new i row e size
-    → names_of new ≡ names_of es
+    → reserve_names new ≡ reserve_names es
 turn-names d rows es new i row e size t =
-    ap names_of t.written ∙ names-set es i e (record { pool = e.pool; size = size }) (inside d rows es new i row e size t) t.at refl
+    ap reserve_names t.written ∙ names-set es i e (record { pool = e.pool; size = size }) (inside d rows es new i row e size t) t.at refl
 
 -- it falls
 pub turn-falls : (d : Definitions) (grants : List Holding) (rows : List PoolRow) (es new start : List Reserve) (i : ℕ) (row : PoolRow) (e : Reserve) (size : ℕ)

@@ -9,19 +9,16 @@ use Rattle.rm_rules.specs.declared.state.Holding.{Holding}
 use Rattle.rm_rules.specs.declared.state.Reserve.{Reserve}
 use Rattle.rm_rules.specs.Definitions.{total, user_pools}
 use Rattle.rm_rules.specs.State.{without}
-use Rattle.rm_rules.specs.Holdings.{Holdings, reserves_of}
+use Rattle.rm_rules.specs.Holdings.{Holdings, reserves_of, reserve_names}
 use Rattle.rm_rules.specs.Accounting.{account_behind}
 
--- the names of all pools but GENERAL: in the definitions, and among the reserves
+-- the names of all pools but GENERAL
 abbrev pub names_in : Definitions → List Name
 names_in d = map (λ r. r.name) (user_pools d.pools)
 
-abbrev pub names_of : List Reserve → List Name
-names_of reserves = map (λ e. e.pool) reserves
-
 -- a pool of this name is there; GENERAL always is
 abbrev pub has_name : List Reserve → Name → Bool
-has_name reserves pool = list_any (same_name pool) (general ∷ names_of reserves)
+has_name reserves pool = list_any (same_name pool) (general ∷ reserve_names reserves)
 
 -- the query is this one
 abbrev pub is_of : ℕ → Holding → Bool

@@ -29,17 +29,18 @@ impl Model for Accounts {
 
     ghost Value = { Holdings };
 
-    ghost use Rattle.accounts.specs.Kept.{seen, AreKept};
+    ghost use Rattle.accounts.specs.Kept.{seen_holdings, AreBalanced};
 
-    ghost view = { seen };
+    ghost view = { seen_holdings };
 
-    ghost invariant = { AreKept };
+    ghost invariant = { AreBalanced };
 }
 
 impl Accounts {
+    ghost use Rattle.rm_rules.specs.Holdings.{reserve_names};
     ghost use Rattle.rm_rules.specs.Accounting.{used, running_in, reserve_of, actual_of, own_of, unused_of, lent, free, need, account_behind};
     ghost use Rattle.rm_rules.specs.Shuffle.{shuffled};
-    ghost use Rattle.accounts.specs.Accounts.{names_in, names_of, has_name, is_of, has_query, queries, grant_of, account_of, first_holdings, taken, given_back, with_pool};
+    ghost use Rattle.accounts.specs.Accounts.{names_in, has_name, is_of, has_query, queries, grant_of, account_of, first_holdings, taken, given_back, with_pool};
 
     /// No query runs yet. All memory that the accounts will ever use is taken here.
     pub fn new(alloc: Global, definitions: &Definitions) -> Result<Accounts, AllocError>
@@ -245,7 +246,7 @@ impl Accounts {
     /// Actual sizes follow the declared ones as far as bytes in use let them, and the memory in force the total.
     pub fn shuffle(&mut self, definitions: &Definitions)
         requires sound { IsSound definitions.now }
-        requires same_pools { names_in definitions.now ≡ names_of self.old.reserves }
+        requires same_pools { names_in definitions.now ≡ reserve_names self.old.reserves }
         ensures { self.new ≡ shuffled definitions.now self.old }
     {
         let grants = self.grants.rows();

@@ -6,18 +6,18 @@ ghost use Rattle.rm_base.specs.declared.definitions.Definitions.{Definitions};
 ghost use Rattle.rm_base.specs.declared.name.Name.{Name};
 ghost use Rattle.rm_rules.specs.declared.state.Runner.{Runner};
 ghost use Rattle.rm_rules.specs.State.{State, without_runner};
-ghost use Rattle.rm_rules.specs.Holdings.{holding, holdings, holdings_of};
+ghost use Rattle.rm_rules.specs.Holdings.{holding, holdings, holdings_of, reserve_names};
 ghost use Rattle.rm_rules.specs.Accounting.{account_behind};
 ghost use Rattle.rm_rules.specs.Shuffle.{shuffled, shuffled_state};
 ghost use Rattle.rm_rules.specs.Sound.{IsSound, has_pool};
 ghost use Rattle.rm_rules.specs.Healthy.{AreSized};
-ghost use Rattle.accounts.specs.Accounts.{names_in, names_of, has_name, has_query, grant_of, account_of, taken, given_back, with_pool};
+ghost use Rattle.accounts.specs.Accounts.{names_in, has_name, has_query, grant_of, account_of, taken, given_back, with_pool};
 
 /// The reserves of a state are of its pools, and go with them.
 pub fn pools_agree()
     ensures names { (s : State)
         → AreSized s.definitions s.actual s.counters
-        → names_of (holdings_of s).reserves ≡ names_in s.definitions }
+        → reserve_names (holdings_of s).reserves ≡ names_in s.definitions }
     ensures known { (s : State) (pool : Name)
         → IsSound s.definitions
         → AreSized s.definitions s.actual s.counters

@@ -3,10 +3,10 @@ ghost use Rattle.std.specs.Prelude.{◌≡◌, ◌<◌, ◌≤◌, ◌+◌, ◌-
 ghost use Rattle.rm_base.specs.declared.limits.TheConstants.{POOLS_MOST};
 ghost use Rattle.rm_rules.specs.Definitions.{user_pools};
 ghost use Rattle.rm_rules.specs.Sound.{IsSound};
-ghost use Rattle.rm_rules.specs.Holdings.{reserves_of};
+ghost use Rattle.rm_rules.specs.Holdings.{reserves_of, reserve_names};
 ghost use Rattle.rm_rules.specs.Accounting.{debt};
 ghost use Rattle.rm_rules.specs.Shuffle.{grown_reserves};
-ghost use Rattle.accounts.specs.Accounts.{names_in, names_of};
+ghost use Rattle.accounts.specs.Accounts.{names_in};
 ghost use Rattle.accounts.specs.Sizes.{held, fallen_to, growth_to, fallen_reserves};
 
 use crate::bytes::{debt, own};
@@ -65,7 +65,7 @@ pub fn fall(
     reserves: &mut Bounded<Reserve, POOLS_MOST>,
 )
     requires sound { IsSound definitions.now }
-    requires same_pools { names_in definitions.now ≡ names_of reserves.old }
+    requires same_pools { names_in definitions.now ≡ reserve_names reserves.old }
     requires granted { held grants.now < 2 ^ 64 }
     ensures { reserves.new ≡ fallen_reserves definitions.now grants.now reserves.old }
 {
@@ -103,7 +103,7 @@ pub fn grow(
     free: u64,
 )
     requires sound { IsSound definitions.now }
-    requires same_pools { names_in definitions.now ≡ names_of reserves.old }
+    requires same_pools { names_in definitions.now ≡ reserve_names reserves.old }
     requires granted { held grants.now < 2 ^ 63 }
     requires free { free < 2 ^ 63 }
     ensures { reserves.new ≡ grown_reserves definitions.now grants.now free reserves.old }

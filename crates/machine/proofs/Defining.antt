@@ -1,5 +1,5 @@
 -- The pools after an accepted statement: as many by the same names, or one more behind them.
-use Rattle.std.proofs.Common.{◌≡◌, ◌<◌, ◌≤◌, ◌+◌, ℕ, Bool, true, false, List, [], ◌∷◌, ◌++◌, length, Ok, get_or, map, refl, sym, ap, ◌∙◌, subst, arith}
+use Rattle.std.proofs.Common.{◌≡◌, ◌<◌, ◌≤◌, ◌+◌, ℕ, true, false, List, [], ◌∷◌, ◌++◌, length, Ok, get_or, map, refl, sym, ap, ◌∙◌, subst, arith}
 use Rattle.std.proofs.lemmas.Bool.{false≢true}
 use Rattle.std.proofs.lemmas.List.{length_push, map_push}
 use Rattle.rm_base.specs.declared.definitions.Definitions.{Definitions}
@@ -19,7 +19,7 @@ use Rattle.rm_rules.proofs.Defining.{NamesAfter, keeps_names, adds_name, accepte
 use Rattle.accounts.specs.Accounts.{names_in, with_pool as with_reserve}
 use Rattle.accounts.proofs.Standing.{kept-stand, added-stand}
 use Rattle.machine.specs.declared.machine.Machine.TheInside.{Inside}
-use Rattle.machine.specs.Inside.{seen, IsTied}
+use Rattle.machine.specs.Inside.{seen_state, IsTied}
 use Rattle.machine.proofs.Inside.{bytes_under}
 
 -- one pool came behind the others, or none came
@@ -78,44 +78,44 @@ user-count : (pools : List PoolRow) → begins_with_general pools ≡ true → l
 user-count [] begins = absurd (false≢true begins)
 user-count (r ∷ rs) begins = omega arith
 
-pub reserves-count : (m : Inside) → IsSound m.definitions → AreSized m.definitions (seen m).actual m.counters → length m.accounts.reserves + 1 ≡ length m.definitions.pools
+pub reserves-count : (m : Inside) → IsSound m.definitions → AreSized m.definitions (seen_state m).actual m.counters → length m.accounts.reserves + 1 ≡ length m.definitions.pools
 reserves-count m sound sized = omega (arith, sized.sizes, sizes-count m.accounts.reserves, user-count m.definitions.pools sound.general_first)
 
 -- the bytes under the new definitions
-pub bytes-added : (m : Inside) (new : Definitions) (row : PoolRow) (a : Holdings) → IsTied m → AreSized m.definitions (seen m).actual m.counters → IsAdded m.definitions new row
+pub bytes-added : (m : Inside) (new : Definitions) (row : PoolRow) (a : Holdings) → IsTied m → AreSized m.definitions (seen_state m).actual m.counters → IsAdded m.definitions new row
     → a ≡ with_reserve m.accounts row.name → bytes_under new a m.running ≡ a
 bytes-added m new row a h sized adds is =
     let e : Reserve = record { pool = row.name; size = 0 } in
     let sizes = map_push (λ (x : Reserve). x.size) m.accounts.reserves e in
     subst (λ (b : Holdings). bytes_under new b m.running ≡ b) (sym is)
-    (ap (λ (ns : List ℕ). let s : State = record (seen m) { definitions = new; actual = ns } in holdings_of s) sizes
-    ∙ added-stand (seen m) new row.name sized adds.names
+    (ap (λ (ns : List ℕ). let s : State = record (seen_state m) { definitions = new; actual = ns } in holdings_of s) sizes
+    ∙ added-stand (seen_state m) new row.name sized adds.names
     ∙ ap (λ (b : Holdings). with_reserve b row.name) h.bytes)
 
-pub bytes-altered : (m : Inside) (new : Definitions) → IsTied m → AreSized m.definitions (seen m).actual m.counters → IsAltered m.definitions new → bytes_under new m.accounts m.running ≡ m.accounts
-bytes-altered m new h sized alters = kept-stand (seen m) new sized alters.names ∙ h.bytes
+pub bytes-altered : (m : Inside) (new : Definitions) → IsTied m → AreSized m.definitions (seen_state m).actual m.counters → IsAltered m.definitions new → bytes_under new m.accounts m.running ≡ m.accounts
+bytes-altered m new h sized alters = kept-stand (seen_state m) new sized alters.names ∙ h.bytes
 
 -- the state with the new definitions
 seen-added : (m : Inside) (new : Definitions) (row : PoolRow) (b : Holdings) (counters : List EndCounts) → IsAdded m.definitions new row → b ≡ with_reserve m.accounts row.name
-    → counters ≡ m.counters ++ none_ended ∷ [] → seen (record m { definitions = new; accounts = b; counters = counters }) ≡ (defined (seen m) new).state
+    → counters ≡ m.counters ++ none_ended ∷ [] → seen_state (record m { definitions = new; accounts = b; counters = counters }) ≡ (defined (seen_state m) new).state
 seen-added m new row b counters h is more =
-    let sizes = map_push (λ (x : Reserve). x.size) m.accounts.reserves (record { pool = row.name; size = 0 }) ∙ sym (place-more m.definitions new 0 (seen m).actual h.count) in
-    ap (λ (x : Holdings). let t : State = record (seen m) { definitions = new; in_force = x.in_force; actual = map (λ (e : Reserve). e.size) x.reserves; counters = counters } in t) is
-    ∙ ap (λ (ns : List ℕ). let t : State = record (seen m) { definitions = new; actual = ns; counters = counters } in t) sizes
-    ∙ ap (λ (cs : List EndCounts). let t : State = record (seen m) { definitions = new; actual = with_place m.definitions new 0 (seen m).actual; counters = cs } in t)
+    let sizes = map_push (λ (x : Reserve). x.size) m.accounts.reserves (record { pool = row.name; size = 0 }) ∙ sym (place-more m.definitions new 0 (seen_state m).actual h.count) in
+    ap (λ (x : Holdings). let t : State = record (seen_state m) { definitions = new; in_force = x.in_force; actual = map (λ (e : Reserve). e.size) x.reserves; counters = counters } in t) is
+    ∙ ap (λ (ns : List ℕ). let t : State = record (seen_state m) { definitions = new; actual = ns; counters = counters } in t) sizes
+    ∙ ap (λ (cs : List EndCounts). let t : State = record (seen_state m) { definitions = new; actual = with_place m.definitions new 0 (seen_state m).actual; counters = cs } in t)
     (more ∙ sym (place-more m.definitions new none_ended m.counters h.count))
 
-pub state-added : (m : Inside) (s : State) (new : Definitions) (row : PoolRow) (b : Holdings) (counters : List EndCounts) → seen m ≡ s → IsAdded m.definitions new row
+pub state-added : (m : Inside) (s : State) (new : Definitions) (row : PoolRow) (b : Holdings) (counters : List EndCounts) → seen_state m ≡ s → IsAdded m.definitions new row
     → b ≡ with_reserve m.accounts row.name → counters ≡ m.counters ++ none_ended ∷ []
-    → seen (record m { definitions = new; accounts = b; counters = counters }) ≡ (defined s new).state
+    → seen_state (record m { definitions = new; accounts = b; counters = counters }) ≡ (defined s new).state
 state-added m s new row b counters same h is more =
     seen-added m new row b counters h is more ∙ ap (λ (t : State). (defined t new).state) same
 
-seen-altered : (m : Inside) (new : Definitions) → IsAltered m.definitions new → seen (record m { definitions = new }) ≡ (defined (seen m) new).state
+seen-altered : (m : Inside) (new : Definitions) → IsAltered m.definitions new → seen_state (record m { definitions = new }) ≡ (defined (seen_state m) new).state
 seen-altered m new h =
-    ap (λ (ns : List ℕ). let t : State = record (seen m) { definitions = new; actual = ns } in t) (sym (place-same m.definitions new 0 (seen m).actual h.count))
-    ∙ ap (λ (cs : List EndCounts). let t : State = record (seen m) { definitions = new; actual = with_place m.definitions new 0 (seen m).actual; counters = cs } in t)
+    ap (λ (ns : List ℕ). let t : State = record (seen_state m) { definitions = new; actual = ns } in t) (sym (place-same m.definitions new 0 (seen_state m).actual h.count))
+    ∙ ap (λ (cs : List EndCounts). let t : State = record (seen_state m) { definitions = new; actual = with_place m.definitions new 0 (seen_state m).actual; counters = cs } in t)
     (sym (place-same m.definitions new none_ended m.counters h.count))
 
-pub state-altered : (m : Inside) (s : State) (new : Definitions) → seen m ≡ s → IsAltered m.definitions new → seen (record m { definitions = new }) ≡ (defined s new).state
+pub state-altered : (m : Inside) (s : State) (new : Definitions) → seen_state m ≡ s → IsAltered m.definitions new → seen_state (record m { definitions = new }) ≡ (defined s new).state
 state-altered m s new same h = seen-altered m new h ∙ ap (λ (t : State). (defined t new).state) same

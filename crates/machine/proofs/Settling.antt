@@ -162,9 +162,6 @@ ends-due first s w t is found h =
       kept = healthy-ended 0 0 (deadline_end s w) s w among h.kept;
     })
 
-pub none-due : (s : State) → (let o : Option Waiter = None in first_due s ≡ o) → without_due s ≡ s
-none-due s nothing = turns-end first_due timed_out s nothing
-
 -- the loop that admits
 pub record Admits (first s : State) : Type 0 where
   pub leads : admission s ≡ admission first

@@ -15,7 +15,7 @@ abbrev pub beginning : DeskState → State
 beginning d = start d.first d.state.room
 
 -- the history is legal and leads from the beginning to the state, which is healthy
-pub record IsKept (d : DeskState) : Type 0 where
+pub record IsLegalDesk (d : DeskState) : Type 0 where
   pub sound : IsSound d.first
   pub healthy : IsHealthy d.state
   pub legal : IsLegal (beginning d) d.state.journal

@@ -5,8 +5,8 @@ use Rattle.rm_rules.specs.State.{State, counted_entries}
 use Rattle.rm_rules.specs.Holdings.{holdings_of}
 use Rattle.machine.specs.declared.machine.Machine.TheInside.{Inside}
 
-abbrev pub seen : Inside → State
-seen m = record {
+abbrev pub seen_state : Inside → State
+seen_state m = record {
   definitions = m.definitions;
   in_force = m.accounts.in_force;
   actual = map (λ e. e.size) m.accounts.reserves;
@@ -24,6 +24,6 @@ seen m = record {
 
 -- the accounts are the state's bytes, the journal has room for all its entries, and those that count are counted
 pub record IsTied (m : Inside) : Type 0 where
-  pub bytes : holdings_of (seen m) ≡ m.accounts
+  pub bytes : holdings_of (seen_state m) ≡ m.accounts
   pub journal : m.room + ENTRIES_BEYOND + CHANGES_MOST ≤ vec_capacity m.journal
   pub counted : m.counted ≡ counted_entries m.journal.items

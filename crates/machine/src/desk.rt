@@ -18,13 +18,13 @@ pub struct Desk {
 }
 
 impl Model for Desk {
-    ghost use Rattle.machine.specs.Desk.{DeskState, IsKept};
+    ghost use Rattle.machine.specs.Desk.{DeskState, IsLegalDesk};
 
     ghost Value = { DeskState };
 
     ghost view = { λ d. record { first = d.first; state = d.machine } };
 
-    ghost invariant = { λ d. IsKept (record { first = d.first; state = d.machine }) };
+    ghost invariant = { λ d. IsLegalDesk (record { first = d.first; state = d.machine }) };
 }
 
 impl Desk {

@@ -60,9 +60,9 @@ impl Model for Machine {
 
     ghost Value = { State };
 
-    ghost use Rattle.machine.specs.Inside.{seen, IsTied};
+    ghost use Rattle.machine.specs.Inside.{seen_state, IsTied};
 
-    ghost view = { seen };
+    ghost view = { seen_state };
 
     ghost invariant = { IsTied };
 }

@@ -1,5 +1,6 @@
 -- A waiting query by its number and by its session.
 use Rattle.std.proofs.Common.{◌≡◌, ◌≤◌, ℕ, ◌+◌, Bool, true, false, ◌||◌, nat_eq, Option, Some, unwrap_or, option_map, List, [], ◌∷◌, ◌++◌, length, find, count_by, position, refl, ap, sym, ◌∙◌, arith}
+use Rattle.std.proofs.Math.Bool.{or-true}
 use Rattle.rm_rules.specs.declared.state.Waiter.{Waiter}
 use Rattle.rm_rules.specs.State.{without, without_waiter}
 use Rattle.rm_rules.specs.Answers.{queue_place}
@@ -7,10 +8,6 @@ use Rattle.rm_rules.proofs.Once.{is-itself, find-single, without-single, positio
 use Rattle.pool_queue.specs.Queue.{is_query, has_query, place_of_query}
 
 -- a query is found by its number
-or-true : (b : Bool) → (b || true) ≡ true
-or-true true = refl
-or-true false = refl
-
 waits-among : (before rest : List Waiter) (w : Waiter) → has_query (before ++ w ∷ rest) w.query ≡ true
 waits-among [] rest w = ap (λ b. b || has_query rest w.query) (is-itself w.query)
 waits-among (x ∷ before) rest w = ap (λ b. is_query w.query x || b) (waits-among before rest w) ∙ or-true (is_query w.query x)

@@ -8,7 +8,7 @@ use Rattle.rm_base.specs.Name.{same_name, general}
 use Rattle.rm_rules.specs.Definitions.{pool_called, pool_row, total, reserved, usable}
 use Rattle.rm_rules.specs.PoolStatements.{pools_with, with_pool}
 use Rattle.rm_rules.proofs.Rows.{called_with}
-use Rattle.rm_rules.proofs.AcceptancePools.{reserved_with, memory_of-within}
+use Rattle.rm_rules.proofs.AcceptancePools.{reserved_with, reserved_by-within}
 use Rattle.rm_rules.proofs.PoolLaws.{total-with}
 
 pub called-here : (row : PoolRow) (rows : List PoolRow) (name : Name) → same_name row.name name ≡ true → Some row ≡ pool_called (pools_with row rows) name
@@ -24,7 +24,7 @@ pub total-apart : (d : Definitions) (row : PoolRow) → same_name row.name gener
 total-apart d row is = sym (total-with d row ∙ ap (λ b. cond b (unwrap_or row.max (usable d.memory)) (total d)) is)
 
 pub had-within : (d : Definitions) (row : PoolRow) → (pool_row d row.name).memory ≤ reserved d
-had-within d row = memory_of-within d.pools row.name
+had-within d row = reserved_by-within d.pools row.name
 
 pub reserved-after : (d : Definitions) (row : PoolRow) → reserved (with_pool d row) + (pool_row d row.name).memory ≡ reserved d + row.memory
 reserved-after d row = reserved_with row d.pools

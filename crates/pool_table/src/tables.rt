@@ -10,14 +10,14 @@ use rm_base::name::Name;
 use rm_base::rows::{PoolRow, RoleRow, UserRow};
 
 /// A row that has a name.
-pub trait Named: Copy {
+pub trait NamedRow: Copy {
     ghost name_of: { Self → Name };
 
     fn name(&self) -> Name
         ensures { result ≡ name_of self.now };
 }
 
-impl Named for PoolRow {
+impl NamedRow for PoolRow {
     ghost name_of = { λ r. r.name };
 
     fn name(&self) -> Name {
@@ -25,7 +25,7 @@ impl Named for PoolRow {
     }
 }
 
-impl Named for UserRow {
+impl NamedRow for UserRow {
     ghost name_of = { λ u. u.name };
 
     fn name(&self) -> Name {
@@ -33,7 +33,7 @@ impl Named for UserRow {
     }
 }
 
-impl Named for RoleRow {
+impl NamedRow for RoleRow {
     ghost name_of = { λ r. r.name };
 
     fn name(&self) -> Name {
@@ -42,14 +42,14 @@ impl Named for RoleRow {
 }
 
 /// The place of the first row of this name.
-fn place_of<T: Named>(rows: &[T], name: Name) -> Option<usize>
+fn place_of<T: NamedRow>(rows: &[T], name: Name) -> Option<usize>
     ensures { result ≡ position (λ r. same_name (T.name_of r) name) rows.now }
 {
     rows.iter().position(|r| r.name().same(name))
 }
 
 /// Puts the row in the place of the one of its name, or at the end.
-pub fn put<T: Named, const MOST: usize>(rows: &mut Bounded<T, MOST>, row: T)
+pub fn put<T: NamedRow, const MOST: usize>(rows: &mut Bounded<T, MOST>, row: T)
     requires { length (with_row T.name_of row rows.old) ≤ MOST }
     ensures { rows.new ≡ with_row T.name_of row rows.old }
 {

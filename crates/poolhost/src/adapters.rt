@@ -1,12 +1,17 @@
-//! The streams of the system, as the host's source and sink. They count each failure but want of memory, and tell nothing
-//! of what a stream holds.
+//! The streams and files of the system, as the host's source, sink and shelf. They count each failure but want of memory,
+//! and tell nothing of what a stream or a file holds.
 
-ghost use Rattle.std.specs.Prelude.{◌≡◌, ◌↔◌, Some, IsNone};
+ghost use Rattle.std.specs.Prelude.{◌≡◌, ◌≤◌, ◌↔◌, Some, IsNone, IfOk, vec_len};
 ghost use Rattle.std.specs.IoError.{error_kind};
+ghost use Rattle.rm_base.specs.declared.limits.TheConstants.{FILE_MOST};
 
+use rm_base::limits::{FILE_MOST, PIECE_MOST};
 use rm_outside::outside::Outside;
+use rm_outside::shelf::{Shelf, ShelfError};
 use rm_outside::sink::Sink;
 use rm_outside::source::Source;
+use std::alloc::Global;
+use std::fs::{File, Files};
 use std::io::{Error, ErrorKind, Read, Write};
 
 /// What an error of a stream means for the host. It means nothing where the call was interrupted, and is to be tried again.
@@ -108,14 +113,97 @@ impl<W: Write + Drop> Sink for WriterSink<W> {
     }
 }
 
+/// The files of the system as a shelf. A path is read from where the program runs.
+#[derive(Drop)]
+pub struct FileShelf<'a, F: Files> {
+    files: &'a F,
+    faults: u64,
+}
+
+impl<'a, F: Files> FileShelf<'a, F> {
+    pub fn new(files: &'a F) -> FileShelf<'a, F> {
+        FileShelf { files, faults: 0 }
+    }
+}
+
+impl<'a, F: Files> Shelf for FileShelf<'a, F> {
+    ghost use Rattle.std.specs.Prelude.{None};
+
+    ghost faults = { λ s. s.faults };
+
+    ghost files = { λ _. None };
+
+    fn faults(&self) -> u64 {
+        self.faults
+    }
+
+    fn load(&mut self, alloc: Global, path: &str) -> Result<Vec<u8>, ShelfError> {
+        match read_file(self.files, alloc, path) {
+            Ok(bytes) => Ok(bytes),
+            Err(ShelfError::Failed) => {
+                self.faults = self.faults.saturating_add(1);
+                Err(ShelfError::Failed)
+            }
+            Err(ShelfError::Missing) => Err(ShelfError::Missing),
+            Err(ShelfError::TooLong) => Err(ShelfError::TooLong),
+            Err(ShelfError::Memory) => Err(ShelfError::Memory),
+        }
+    }
+}
+
+/// What an error of opening a file means for the host.
+fn shelf_error(error: &Error) -> ShelfError
+    ensures missing { (result ≡ ShelfError.Missing) ↔ (error_kind error.now ≡ ErrorKind.NotFound) }
+    ensures memory { (result ≡ ShelfError.Memory) ↔ (error_kind error.now ≡ ErrorKind.OutOfMemory) }
+{
+    match error.kind() {
+        ErrorKind::NotFound => ShelfError::Missing,
+        ErrorKind::OutOfMemory => ShelfError::Memory,
+        _ => ShelfError::Failed,
+    }
+}
+
+/// The bytes of the file at a path.
+fn read_file<F: Files>(files: &F, alloc: Global, path: &str) -> Result<Vec<u8>, ShelfError>
+    ensures { IfOk result (λ bytes. vec_len bytes ≤ FILE_MOST) }
+{
+    match File::open(files, path) {
+        Ok(file) => read_whole(alloc, file),
+        Err(error) => Err(shelf_error(&error)),
+    }
+}
+
+/// The bytes that a reader gives up to its end, of a file at most.
+fn read_whole<R: Read + Drop>(alloc: Global, reader: R) -> Result<Vec<u8>, ShelfError>
+    ensures { IfOk result (λ bytes. vec_len bytes ≤ FILE_MOST) }
+{
+    let mut source = ReaderSource::new(reader);
+    let mut bytes = Vec::new(alloc);
+    let mut piece = [0; PIECE_MOST];
+    while bytes.len() <= FILE_MOST {
+        let most = PIECE_MOST.min(FILE_MOST + 1 - bytes.len());
+        let count = match source.read(&mut piece[..most]) {
+            Ok(count) => count,
+            Err(Outside::Failed) => return Err(ShelfError::Failed),
+            Err(Outside::Memory) => return Err(ShelfError::Memory),
+        };
+        if count == 0 {
+            return Ok(bytes);
+        }
+        bytes.extend_from_slice(&piece[..count])?;
+    }
+    Err(ShelfError::TooLong)
+}
+
 #[cfg(test)]
 mod tests {
-    use super::{ReaderSource, WriterSink};
+    use super::{FileShelf, ReaderSource, WriterSink, read_whole};
     use rm_outside::outside::Outside;
+    use rm_outside::shelf::{Shelf, ShelfError};
     use rm_outside::sink::Sink;
     use rm_outside::source::Source;
-    use std::io;
     use std::test::Fail;
+    use std::{fs, io};
 
     /// A stream of which each call fails so.
     #[derive(Drop)]
@@ -151,6 +239,32 @@ mod tests {
         let mut wanting = ReaderSource::new(Broken(io::ErrorKind::OutOfMemory));
         assert_eq!(rt; wanting.read(&mut into), Err(Outside::Memory));
         assert_eq!(rt; wanting.faults(), 0);
+        Ok(())
+    }
+
+    #[test]
+    fn adapts_files(rt: HostRuntime) -> Result<(), Fail> {
+        fs::write(&rt, "shelf.csv", b"n:int\n1\n")?;
+        fs::create_dir(&rt, "shelf.dir")?;
+        let mut shelf = FileShelf::new(&rt);
+        let bytes = shelf.load(rt.alloc(), "shelf.csv").expect(&rt, "a file");
+        assert_eq!(rt; bytes.as_slice(), b"n:int\n1\n".as_slice());
+        assert_eq!(rt;
+            shelf.load(rt.alloc(), "none.csv").err(),
+            Some(ShelfError::Missing)
+        );
+        assert_eq!(rt; shelf.faults(), 0);
+        assert_eq!(rt;
+            shelf.load(rt.alloc(), "shelf.dir").err(),
+            Some(ShelfError::Failed)
+        );
+        assert_eq!(rt; shelf.faults(), 1);
+        fs::remove_dir(&rt, "shelf.dir")?;
+        fs::remove_file(&rt, "shelf.csv")?;
+        assert_eq!(rt;
+            read_whole(rt.alloc(), io::repeat(b'a')).err(),
+            Some(ShelfError::TooLong)
+        );
         Ok(())
     }
 

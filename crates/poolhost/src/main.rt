@@ -3,9 +3,8 @@
 
 mod adapters;
 
-use adapters::{ReaderSource, WriterSink};
+use adapters::{FileShelf, ReaderSource, WriterSink};
 use rm_outside::memory_keeper::MemoryKeeper;
-use rm_outside::memory_shelf::MemoryShelf;
 use rm_outside::memory_spool::MemorySpool;
 use sessions::script_main::script_main;
 use sessions::status::{DONE, NO_MEMORY, Status, USAGE, WRITE_FAULT};
@@ -28,9 +27,11 @@ Lines of a script:
   open S USER POOL     opens it, and S chooses the pool
   set S pool POOL      S chooses the pool
   ask S FLOOR          submits a query of S that needs at least FLOOR bytes
+  query S TEXT         submits the SELECT that TEXT is, over the tables
   poll S               tells what became of the query of S
-  done S               ends the query of S
+  done S               runs the SELECT of S, if it submitted one, and ends the query
   close S              closes the session
+  table NAME PATH      loads a table from a file of CSV
 Empty lines and lines that begin with # print nothing.";
 
 /// The words of the command line, without the program's own.
@@ -47,7 +48,7 @@ fn run_script(rt: &HostRuntime, alloc: Global, words: &[String]) -> Status {
     let mut input = ReaderSource::new(rt.stdin());
     let mut out = WriterSink::new(rt.stdout());
     let mut keeper = MemoryKeeper::new();
-    let mut shelf = MemoryShelf::new(alloc);
+    let mut shelf = FileShelf::new(rt);
     let mut spool = MemorySpool::new(alloc);
     script_main(
         alloc,

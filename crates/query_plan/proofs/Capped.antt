@@ -16,7 +16,9 @@ use Rattle.query_plan.specs.declared.part.Side.TheVariants as side
 use Rattle.query_plan.specs.declared.part.Turn.{Turn}
 use Rattle.query_plan.specs.declared.part.Turn.TheVariants.{Goes, Ends, Stops}
 use Rattle.query_plan.specs.declared.progress.Progress.{Progress}
-use Rattle.query_plan.specs.declared.progress.Progress.TheVariants.{Start, In, Ordering, Ended}
+use Rattle.query_plan.specs.declared.progress.Progress.TheVariants.{Start, In, By, Ended}
+use Rattle.query_plan.specs.declared.raw.Function.{Function}
+use Rattle.query_plan.specs.declared.raw.Function.TheVariants as function
 use Rattle.query_plan.specs.declared.raw.KeyBy.TheVariants as by
 use Rattle.query_plan.specs.declared.raw.RawSelect.{RawSelect}
 use Rattle.query_plan.specs.declared.raw.Slot.{Slot}
@@ -25,7 +27,7 @@ use Rattle.query_plan.specs.Raw.{added, has_room}
 use Rattle.query_plan.specs.Scope.{counts_within, is_listed}
 use Rattle.query_plan.specs.Word.{number_at}
 use Rattle.query_plan.specs.Grammar.{clause_of, int_of, negative_of}
-use Rattle.query_plan.specs.Machine.{begun_in, goes, int_read, led, step, turn, turned, unqualified_turn}
+use Rattle.query_plan.specs.Machine.{begun_in, goes, int_read, led, opened_turn, step, turn, turned, unqualified_turn}
 
 -- what a number gives, if it passes a test that no number from the greatest on passes
 guarded : {T : Type 0} (test : ℕ → Bool) (f : ℕ → T) (n top : ℕ) → ((k : ℕ) → top ≤ k → test k ≡ false)
@@ -61,7 +63,10 @@ begun-capped : (catalog : List CatalogTable) (raw : RawSelect) (s : Slot) (a n :
 begun-capped catalog raw slot.List a n = refl
 begun-capped catalog raw slot.Item a n = refl
 begun-capped catalog raw slot.Table a n = refl
+begun-capped catalog raw slot.Joined a n = refl
+begun-capped catalog raw slot.On a n = ap (λ i. int_read side.Left i) (int-capped n)
 begun-capped catalog raw slot.Test a n = ap (λ i. int_read side.Left i) (int-capped n)
+begun-capped catalog raw slot.Group a n = refl
 begun-capped catalog raw slot.Key a n =
     guarded (is_listed catalog raw) (λ k. partial.KeyBy (by.Number k)) n most
     (λ k over. and_false (nat_lt 0 k) (nat_lt k (2 ^ 63)) (counts_within catalog raw raw.all k) (not_below (2 ^ 63) most k (lit≤ tt) over))
@@ -70,50 +75,65 @@ begun-capped catalog raw slot.Limit a n =
 
 unqualified-number : (p : Purpose) (name : Name) (a m n : ℕ) → unqualified_turn p name (number_at a m) ≡ unqualified_turn p name (number_at a n)
 unqualified-number (purpose.Item place) name a m n = refl
+unqualified-number (purpose.Argument place f) name a m n = refl
+unqualified-number purpose.Group name a m n = refl
 unqualified-number (purpose.Operand side.Left) name a m n = refl
 unqualified-number (purpose.Operand (side.Right l o place)) name a m n = refl
 
-turn-capped : (catalog : List CatalogTable) (raw : RawSelect) (p : Partial) (a n : ℕ)
-    → turn catalog raw p (number_at a (min n most)) ≡ turn catalog raw p (number_at a n)
-turn-capped catalog raw (partial.Due s) a n = ap (λ o. goes (if has_room raw s then o else None)) (begun-capped catalog raw s a n)
-turn-capped catalog raw (partial.All place) a n = refl
-turn-capped catalog raw (partial.Named p name) a n = unqualified-number p name a (min n most) n
-turn-capped catalog raw (partial.Dotted p name) a n = refl
-turn-capped catalog raw (partial.Column place r) a n = refl
-turn-capped catalog raw (partial.ColumnAs place r) a n = refl
-turn-capped catalog raw (partial.Item i) a n = refl
-turn-capped catalog raw (partial.TableNamed name) a n = refl
-turn-capped catalog raw (partial.TableAs name) a n = refl
-turn-capped catalog raw (partial.Table t) a n = refl
-turn-capped catalog raw (partial.Minus which) a n = ap (λ i. goes (int_read which i)) (negative-capped n)
-turn-capped catalog raw (partial.Left l) a n = refl
-turn-capped catalog raw (partial.Compared l o place) a n = ap (λ i. goes (int_read (side.Right l o place) i)) (int-capped n)
-turn-capped catalog raw (partial.Test t) a n = refl
-turn-capped catalog raw (partial.KeyBy k) a n = refl
-turn-capped catalog raw (partial.Key k) a n = refl
-turn-capped catalog raw (partial.Limit k) a n = refl
+opened-number : (place : ℕ) (f : Function) (m n : ℕ) → opened_turn place f (Number m) ≡ opened_turn place f (Number n)
+opened-number place function.Count m n = refl
+opened-number place function.Sum m n = refl
+opened-number place function.Min m n = refl
+opened-number place function.Max m n = refl
+
+turn-capped : (catalog : List CatalogTable) (raw : RawSelect) (s : Slot) (p : Partial) (a n : ℕ)
+    → turn catalog raw s p (number_at a (min n most)) ≡ turn catalog raw s p (number_at a n)
+turn-capped catalog raw s partial.Due a n = ap (λ o. goes (if has_room raw s then o else None)) (begun-capped catalog raw s a n)
+turn-capped catalog raw s (partial.All place) a n = refl
+turn-capped catalog raw s (partial.Named p name) a n = unqualified-number p name a (min n most) n
+turn-capped catalog raw s (partial.Dotted p name) a n = refl
+turn-capped catalog raw s (partial.Function place f) a n = refl
+turn-capped catalog raw s (partial.Opened place f) a n = opened-number place f (min n most) n
+turn-capped catalog raw s (partial.Unclosed place v) a n = refl
+turn-capped catalog raw s (partial.Value place v) a n = refl
+turn-capped catalog raw s (partial.ValueAs place v) a n = refl
+turn-capped catalog raw s (partial.Item i) a n = refl
+turn-capped catalog raw s (partial.TableNamed name) a n = refl
+turn-capped catalog raw s (partial.TableAs name) a n = refl
+turn-capped catalog raw s (partial.Table t) a n = refl
+turn-capped catalog raw s (partial.Minus which) a n = ap (λ i. goes (int_read which i)) (negative-capped n)
+turn-capped catalog raw s (partial.Left l) a n = refl
+turn-capped catalog raw s (partial.Compared l o place) a n = ap (λ i. goes (int_read (side.Right l o place) i)) (int-capped n)
+turn-capped catalog raw s (partial.Test t) a n = refl
+turn-capped catalog raw s (partial.Group r) a n = refl
+turn-capped catalog raw s (partial.KeyBy k) a n = refl
+turn-capped catalog raw s (partial.Key k) a n = refl
+turn-capped catalog raw s (partial.Limit k) a n = refl
 
 led-number : (raw : RawSelect) (k : Clause) (m n : ℕ) → led raw k (Number m) ≡ led raw k (Number n)
 led-number raw clause.Begin m n = refl
 led-number raw clause.All m n = refl
 led-number raw clause.Items m n = refl
 led-number raw clause.Tables m n = refl
+led-number raw clause.Joined m n = refl
+led-number raw clause.Ons m n = refl
 led-number raw clause.Tests m n = refl
+led-number raw clause.Groups m n = refl
 led-number raw clause.Keys m n = refl
 led-number raw clause.Limited m n = refl
 
-turned-number : (raw : RawSelect) (m n : ℕ) (t : Turn) → turned raw (Number m) t ≡ turned raw (Number n) t
-turned-number raw m n (Goes p) = refl
-turned-number raw m n (Ends x) = led-number (added raw x) (clause_of x) m n
-turned-number raw m n Stops = refl
+turned-number : (raw : RawSelect) (s : Slot) (m n : ℕ) (t : Turn) → turned raw s (Number m) t ≡ turned raw s (Number n) t
+turned-number raw s m n (Goes p) = refl
+turned-number raw s m n (Ends x) = led-number (added raw x) (clause_of s x) m n
+turned-number raw s m n Stops = refl
 
 number-capped : (catalog : List CatalogTable) (p : Progress) (a n : ℕ)
     → step catalog p (number_at a (min n most)) ≡ step catalog p (number_at a n)
 number-capped catalog Start a n = refl
-number-capped catalog (In raw p) a n =
-    ap (turned raw (Number (min n most))) (turn-capped catalog raw p a n)
-    ∙ turned-number raw (min n most) n (turn catalog raw p (number_at a n))
-number-capped catalog (Ordering raw) a n = refl
+number-capped catalog (In raw s p) a n =
+    ap (turned raw s (Number (min n most))) (turn-capped catalog raw s p a n)
+    ∙ turned-number raw s (min n most) n (turn catalog raw s p (number_at a n))
+number-capped catalog (By raw s) a n = refl
 number-capped catalog (Ended raw) a n = refl
 
 pub step-capped : (catalog : List CatalogTable) (p : Progress) (a : ℕ) (t : Token)

@@ -16,7 +16,7 @@ use Rattle.query_plan.specs.declared.raw.RawSelect.{RawSelect}
 use Rattle.query_plan.specs.declared.raw.RawTable.{RawTable}
 use Rattle.query_plan.specs.declared.scope.Here.{Here}
 use Rattle.query_plan.specs.Scope.{behind_table, columns_here, counts_within, reaches, scope_from, table_named, with_table}
-use Rattle.query_plan.specs.Resolving.{column_name, counts_among, counts_output, is_key_listed, item_name, names_of}
+use Rattle.query_plan.specs.Resolving.{column_name, counts_among, counts_output, is_key_listed, item_name, output_names}
 use Rattle.query_plan.proofs.Eaches.{onto}
 
 onto-table : (out : List Here) (n : ℕ) (t : RawTable) (found : CatalogTable) (more : Result (List Here) Refusal)
@@ -128,16 +128,16 @@ third_true true false c h = absurd cc
 third_true false b c h = absurd cc
 
 pub counts-names : (catalog : List CatalogTable) (raw : RawSelect) (scope : List Here) (o : Option ℕ) (n : ℕ) → scope_from catalog 0 raw.tables ≡ Ok scope
-    → counts_within catalog raw o n ≡ true → n ≤ length (names_of scope o raw.items)
+    → counts_within catalog raw o n ≡ true → n ≤ length (output_names scope o raw.items)
 counts-names catalog raw scope None n h counts = omega (arith, within-is n (length raw.items) counts, length-map raw.items item_name)
 counts-names catalog raw scope (Some place) n h counts =
     omega (arith, reaches-scope catalog 0 raw.tables scope n h counts, length-map scope column_name)
 
 key-counts : (catalog : List CatalogTable) (raw : RawSelect) (scope : List Here) (k : KeyBy) → scope_from catalog 0 raw.tables ≡ Ok scope
-    → is_key_listed catalog raw k ≡ true → counts_output (length (names_of scope raw.all raw.items)) k ≡ true
+    → is_key_listed catalog raw k ≡ true → counts_output (length (output_names scope raw.all raw.items)) k ≡ true
 key-counts catalog raw scope (by.Name n) h listed = refl
 key-counts catalog raw scope (by.Number n) h listed =
-    within-true n (length (names_of scope raw.all raw.items))
+    within-true n (length (output_names scope raw.all raw.items))
     (counts-names catalog raw scope raw.all n h
     (third_true (nat_lt 0 n) (nat_lt n (2 ^ 63)) (counts_within catalog raw raw.all n) listed))
 
@@ -152,7 +152,7 @@ all-weaker f g (x ∷ xs) each h = weaker-turn f g x xs (f x) refl (each x) (λ 
 
 pub keys-count : (catalog : List CatalogTable) (raw : RawSelect) (scope : List Here) → scope_from catalog 0 raw.tables ≡ Ok scope
     → list_all (λ x. is_key_listed catalog raw x.by) raw.keys ≡ true
-    → list_all (counts_among (length (names_of scope raw.all raw.items))) raw.keys ≡ true
+    → list_all (counts_among (length (output_names scope raw.all raw.items))) raw.keys ≡ true
 keys-count catalog raw scope h listed =
-    all-weaker (λ x. is_key_listed catalog raw x.by) (counts_among (length (names_of scope raw.all raw.items))) raw.keys
+    all-weaker (λ x. is_key_listed catalog raw x.by) (counts_among (length (output_names scope raw.all raw.items))) raw.keys
     (λ x is. key-counts catalog raw scope x.by h is) listed

@@ -1,5 +1,5 @@
 -- what a turn makes of a part so far
-use Rattle.std.proofs.Common.{◌≡◌, ℕ, ℤ, Bool, true, false, nat_le, if◌then◌else◌, Option, Some, None, option_map, List, [], ◌∷◌, ◌++◌, refl, sym, ap, subst, append_assoc, codes}
+use Rattle.std.proofs.Common.{◌≡◌, ℕ, ℤ, Bool, true, false, ◌&&◌, nat_le, if◌then◌else◌, Option, Some, None, option_map, List, [], ◌∷◌, ◌++◌, refl, sym, ap, subst, append_assoc, codes}
 use Rattle.rm_base.specs.declared.catalog.CatalogTable.{CatalogTable}
 use Rattle.rm_base.specs.declared.limits.TheConstants.{LIMIT_MOST}
 use Rattle.rm_base.specs.declared.name.Name.{Name}
@@ -14,7 +14,9 @@ use Rattle.query_plan.specs.declared.part.Purpose.{Purpose}
 use Rattle.query_plan.specs.declared.part.Purpose.TheVariants as purpose
 use Rattle.query_plan.specs.declared.part.Side.{Side}
 use Rattle.query_plan.specs.declared.part.Side.TheVariants as side
-use Rattle.query_plan.specs.declared.part.Turn.TheVariants.{Goes, Ends}
+use Rattle.query_plan.specs.declared.part.Turn.TheVariants.{Goes, Ends, Stops}
+use Rattle.query_plan.specs.declared.raw.Function.{Function}
+use Rattle.query_plan.specs.declared.raw.Function.TheVariants as function
 use Rattle.query_plan.specs.declared.raw.KeyBy.{KeyBy}
 use Rattle.query_plan.specs.declared.raw.KeyBy.TheVariants as by
 use Rattle.query_plan.specs.declared.raw.RawItem.{RawItem}
@@ -24,25 +26,41 @@ use Rattle.query_plan.specs.declared.raw.RawPart.{RawPart}
 use Rattle.query_plan.specs.declared.raw.RawPart.TheVariants as part
 use Rattle.query_plan.specs.declared.raw.RawSelect.{RawSelect}
 use Rattle.query_plan.specs.declared.raw.RawTable.{RawTable}
-use Rattle.query_plan.specs.declared.raw.Reference.{Reference}
+use Rattle.query_plan.specs.declared.raw.RawValue.{RawValue}
+use Rattle.query_plan.specs.declared.raw.RawValue.TheVariants as value
 use Rattle.query_plan.specs.declared.raw.Slot.{Slot}
 use Rattle.query_plan.specs.declared.raw.Slot.TheVariants as slot
 use Rattle.query_plan.specs.Raw.{has_room}
 use Rattle.query_plan.specs.Scope.{is_listed}
 use Rattle.query_plan.specs.Word.{Word, key_at, name_at, number_at, quoted_at, sign_at}
-use Rattle.query_plan.specs.Grammar.{IsColumn, unqualified, qualified, IsItem, named_as, IsTable, called, called_as, IsOperand, of_column, of_number, of_negative, of_text, IsKeyBy, by_name, by_number, IsKey, rising, falling, bare_column, int_of, negative_of, qualified_column, takes_item}
-use Rattle.query_plan.specs.Machine.{alias_turn, begun, begun_in, call_turn, called_turn, column_read, dotted_turn, goes, int_read, is_dot, item_begun, item_of, key_begun, limit_begun, list_begun, minus_turn, named_turn, op_in, operand_begun, operand_read, part_of, test_of, turn, unqualified_part, unqualified_turn}
-use Rattle.query_plan.proofs.Parts.{IsBeside, beside_left, beside_right, IsBefore, before_item, before_operand, IsNamed, is_named, IsDotted, is_dotted, IsColumnAs, is_column_as, IsMinus, is_minus, IsPartial, column-means, operand-means}
-use Rattle.query_plan.proofs.Tokens.{ends_goes, ends_is, goes-no_end, goes-some, goes_ends, goes_is, stops_ends, stops_goes, word-dot, word-key, word-name}
+use Rattle.query_plan.specs.Grammar.{IsColumn, unqualified, qualified, IsValue, plain, IsItem, named_as, IsTable, called, called_as, IsOperand, of_column, of_number, of_negative, of_text, IsKeyBy, by_name, by_number, IsKey, rising, falling, bare_column, function_word, int_of, negative_of, qualified_column, takes_item, takes_table, takes_test}
+use Rattle.query_plan.specs.Machine.{alias_turn, begun, begun_in, call_turn, called_turn, column_read, dotted_turn, function_in, goes, int_read, is_close, is_count, is_dot, is_open, is_star, item_begun, item_of, key_begun, limit_begun, list_begun, minus_turn, named_turn, op_in, operand_begun, operand_read, part_of, test_of, turn, unqualified_part, unqualified_turn, value_begun}
+use Rattle.query_plan.proofs.Parts.{IsBeside, beside_left, beside_right, IsBefore, before_item, before_argument, before_operand, before_group, IsNamed, is_named, IsDotted, is_dotted, IsUnclosed, unclosed_all, unclosed_of, IsValueAs, is_value_as, IsMinus, is_minus, IsPartial, closes, column-means, operand-means}
+use Rattle.query_plan.proofs.Tokens.{ends_goes, ends_is, goes-no_end, goes-some, goes_ends, goes_is, stops_ends, stops_goes, word-close, word-dot, word-function, word-key, word-name, word-open, word-star}
 
 -- a part ends only where it may
-column-ends : (a : ℕ) (r : Reference) (x : RawPart) (b : Bool)
-    → (if b then Goes (partial.ColumnAs a r) else Ends (part.Item (item_of a r))) ≡ Ends x → Some (part.Item (item_of a r)) ≡ Some x
-column-ends a r x true h = absurd (goes_ends (partial.ColumnAs a r) x h)
-column-ends a r x false h = ap (λ y. Some y) (ends_is (part.Item (item_of a r)) x h)
+value-ends : (a : ℕ) (v : RawValue) (x : RawPart) (b : Bool)
+    → (if b then Goes (partial.ValueAs a v) else Ends (part.Item (item_of a v))) ≡ Ends x → Some (part.Item (item_of a v)) ≡ Some x
+value-ends a v x true h = absurd (goes_ends (partial.ValueAs a v) x h)
+value-ends a v x false h = ap (λ y. Some y) (ends_is (part.Item (item_of a v)) x h)
+
+unclosed-no_end : (a : ℕ) (v : RawValue) (x : RawPart) (b : Bool) → (if b then Goes (partial.Value a v) else Stops) ≡ Ends x → ⊥
+unclosed-no_end a v x true h = goes_ends (partial.Value a v) x h
+unclosed-no_end a v x false h = stops_ends x h
+
+function-no_end : (a : ℕ) (f : Function) (x : RawPart) (b : Bool) → (if b then Goes (partial.Opened a f) else Stops) ≡ Ends x → ⊥
+function-no_end a f x true h = goes_ends (partial.Opened a f) x h
+function-no_end a f x false h = stops_ends x h
+
+opened-no_end : (a : ℕ) (o : Option Partial) (x : RawPart) (b : Bool)
+    → (if b then Goes (partial.Unclosed a value.CountAll) else goes o) ≡ Ends x → ⊥
+opened-no_end a o x true h = goes_ends (partial.Unclosed a value.CountAll) x h
+opened-no_end a o x false h = goes-no_end o x h
 
 unqualified-ends : (p : Purpose) (n : Name) (w : Word) (x : RawPart) → unqualified_turn p n w ≡ Ends x → unqualified_part p n ≡ Some x
-unqualified-ends (purpose.Item a) n w x h = column-ends a (bare_column n) x (is_key w.says (codes "AS")) h
+unqualified-ends (purpose.Item a) n w x h = value-ends a (value.Column (bare_column n)) x (is_key w.says (codes "AS")) h
+unqualified-ends (purpose.Argument a f) n w x h = absurd (unclosed-no_end a (value.Of f (bare_column n)) x (is_close w.says) h)
+unqualified-ends purpose.Group n w x h = ap (λ y. Some y) (ends_is (part.Group (bare_column n)) x h)
 unqualified-ends (purpose.Operand side.Left) n w x h =
     absurd (goes-no_end (option_map (λ o. partial.Compared (operand.Column (bare_column n)) o w.place) (op_in w.says)) x h)
 unqualified-ends (purpose.Operand (side.Right l o a)) n w x h =
@@ -66,9 +84,9 @@ dotted-no_end : (p : Purpose) (q : Name) (o : Option Name) (x : RawPart) → dot
 dotted-no_end p q None x h = stops_ends x h
 dotted-no_end p q (Some n) x h = goes_ends (column_read p (qualified_column q n)) x h
 
-alias-no_end : (a : ℕ) (r : Reference) (o : Option Name) (x : RawPart) → alias_turn a r o ≡ Ends x → ⊥
-alias-no_end a r None x h = stops_ends x h
-alias-no_end a r (Some n) x h = goes_ends (partial.Item (record { place = a; column = r; name = Some n })) x h
+alias-no_end : (a : ℕ) (v : RawValue) (o : Option Name) (x : RawPart) → alias_turn a v o ≡ Ends x → ⊥
+alias-no_end a v None x h = stops_ends x h
+alias-no_end a v (Some n) x h = goes_ends (partial.Item (record { place = a; value = v; name = Some n })) x h
 
 call-no_end : (n : Name) (o : Option Name) (x : RawPart) → call_turn n o ≡ Ends x → ⊥
 call-no_end n None x h = stops_ends x h
@@ -88,25 +106,30 @@ key-ends k x true c h = absurd (goes_ends (partial.Key (record { by = k; falling
 key-ends k x false true h = absurd (goes_ends (partial.Key (record { by = k; falling = true })) x h)
 key-ends k x false false h = ap (λ y. Some y) (ends_is (part.Key (record { by = k; falling = false })) x h)
 
-pub turn-part : (catalog : List CatalogTable) (raw : RawSelect) (p : Partial) (w : Word) (x : RawPart) → turn catalog raw p w ≡ Ends x
+pub turn-part : (catalog : List CatalogTable) (raw : RawSelect) (s : Slot) (p : Partial) (w : Word) (x : RawPart) → turn catalog raw s p w ≡ Ends x
     → part_of p ≡ Some x
-turn-part catalog raw (partial.Due d) w x h = absurd (goes-no_end (begun catalog raw d w) x h)
-turn-part catalog raw (partial.All a) w x h = ap (λ y. Some y) (ends_is (part.All a) x h)
-turn-part catalog raw (partial.Named p n) w x h = named-ends p n w x (is_dot w.says) h
-turn-part catalog raw (partial.Dotted p n) w x h = absurd (dotted-no_end p n (name_of w.says) x h)
-turn-part catalog raw (partial.Column a r) w x h = column-ends a r x (is_key w.says (codes "AS")) h
-turn-part catalog raw (partial.ColumnAs a r) w x h = absurd (alias-no_end a r (name_of w.says) x h)
-turn-part catalog raw (partial.Item i) w x h = ap (λ y. Some y) (ends_is (part.Item i) x h)
-turn-part catalog raw (partial.TableNamed n) w x h = table-ends n (name_of w.says) x (is_key w.says (codes "AS")) h
-turn-part catalog raw (partial.TableAs n) w x h = absurd (call-no_end n (name_of w.says) x h)
-turn-part catalog raw (partial.Table t) w x h = ap (λ y. Some y) (ends_is (part.Table t) x h)
-turn-part catalog raw (partial.Minus which) w x h = absurd (minus-no_end which w.says x h)
-turn-part catalog raw (partial.Left l) w x h = absurd (goes-no_end (option_map (λ o. partial.Compared l o w.place) (op_in w.says)) x h)
-turn-part catalog raw (partial.Compared l o a) w x h = absurd (goes-no_end (operand_begun (side.Right l o a) w.says) x h)
-turn-part catalog raw (partial.Test t) w x h = ap (λ y. Some y) (ends_is (part.Test t) x h)
-turn-part catalog raw (partial.KeyBy k) w x h = key-ends k x (is_key w.says (codes "ASC")) (is_key w.says (codes "DESC")) h
-turn-part catalog raw (partial.Key k) w x h = ap (λ y. Some y) (ends_is (part.Key k) x h)
-turn-part catalog raw (partial.Limit n) w x h = ap (λ y. Some y) (ends_is (part.Limit n) x h)
+turn-part catalog raw s partial.Due w x h = absurd (goes-no_end (begun catalog raw s w) x h)
+turn-part catalog raw s (partial.All a) w x h = ap (λ y. Some y) (ends_is (part.All a) x h)
+turn-part catalog raw s (partial.Named p n) w x h = named-ends p n w x (is_dot w.says) h
+turn-part catalog raw s (partial.Dotted p n) w x h = absurd (dotted-no_end p n (name_of w.says) x h)
+turn-part catalog raw s (partial.Function a f) w x h = absurd (function-no_end a f x (is_open w.says) h)
+turn-part catalog raw s (partial.Opened a f) w x h =
+    absurd (opened-no_end a (option_map (λ n. partial.Named (purpose.Argument a f) n) (name_of w.says)) x (is_count f && is_star w.says) h)
+turn-part catalog raw s (partial.Unclosed a v) w x h = absurd (unclosed-no_end a v x (is_close w.says) h)
+turn-part catalog raw s (partial.Value a v) w x h = value-ends a v x (is_key w.says (codes "AS")) h
+turn-part catalog raw s (partial.ValueAs a v) w x h = absurd (alias-no_end a v (name_of w.says) x h)
+turn-part catalog raw s (partial.Item i) w x h = ap (λ y. Some y) (ends_is (part.Item i) x h)
+turn-part catalog raw s (partial.TableNamed n) w x h = table-ends n (name_of w.says) x (is_key w.says (codes "AS")) h
+turn-part catalog raw s (partial.TableAs n) w x h = absurd (call-no_end n (name_of w.says) x h)
+turn-part catalog raw s (partial.Table t) w x h = ap (λ y. Some y) (ends_is (part.Table t) x h)
+turn-part catalog raw s (partial.Minus which) w x h = absurd (minus-no_end which w.says x h)
+turn-part catalog raw s (partial.Left l) w x h = absurd (goes-no_end (option_map (λ o. partial.Compared l o w.place) (op_in w.says)) x h)
+turn-part catalog raw s (partial.Compared l o a) w x h = absurd (goes-no_end (operand_begun (side.Right l o a) w.says) x h)
+turn-part catalog raw s (partial.Test t) w x h = ap (λ y. Some y) (ends_is (part.Test t) x h)
+turn-part catalog raw s (partial.Group r) w x h = ap (λ y. Some y) (ends_is (part.Group r) x h)
+turn-part catalog raw s (partial.KeyBy k) w x h = key-ends k x (is_key w.says (codes "ASC")) (is_key w.says (codes "DESC")) h
+turn-part catalog raw s (partial.Key k) w x h = ap (λ y. Some y) (ends_is (part.Key k) x h)
+turn-part catalog raw s (partial.Limit n) w x h = ap (λ y. Some y) (ends_is (part.Limit n) x h)
 
 -- a word at a place
 abbrev word : ℕ → Token → Word
@@ -121,43 +144,51 @@ named-first catalog raw s p us w q (Some n) is before h =
     subst (λ r. IsPartial catalog raw s r (us ++ w ∷ [])) (some_is (partial.Named p n) q h)
     (subst (λ v. IsNamed s p n (us ++ v ∷ [])) (sym (word-name w n is)) (is_named s p n w.place us before))
 
-int-first : (catalog : List CatalogTable) (raw : RawSelect) (which : Side) (us vs : List Word) (q : Partial) (o : Option ℤ)
-    → IsBeside which us → ((z : ℤ) → o ≡ Some z → IsOperand (operand.Int z) vs) → int_read which o ≡ Some q
-    → IsPartial catalog raw slot.Test q (us ++ vs)
-int-first catalog raw which us vs q None beside is h = absurd (none_some q h)
-int-first catalog raw which us vs q (Some z) beside is h =
-    subst (λ r. IsPartial catalog raw slot.Test r (us ++ vs)) (some_is (operand_read which (operand.Int z)) q h)
-    (operand-means catalog raw which (operand.Int z) us vs beside (is z refl))
+int-first : (catalog : List CatalogTable) (raw : RawSelect) (s : Slot) (which : Side) (us vs : List Word) (q : Partial) (o : Option ℤ)
+    → takes_test s ≡ true → IsBeside which us → ((z : ℤ) → o ≡ Some z → IsOperand (operand.Int z) vs) → int_read which o ≡ Some q
+    → IsPartial catalog raw s q (us ++ vs)
+int-first catalog raw s which us vs q None takes beside is h = absurd (none_some q h)
+int-first catalog raw s which us vs q (Some z) takes beside is h =
+    subst (λ r. IsPartial catalog raw s r (us ++ vs)) (some_is (operand_read which (operand.Int z)) q h)
+    (operand-means catalog raw s which (operand.Int z) us vs takes beside (is z refl))
 
-operand-first : (catalog : List CatalogTable) (raw : RawSelect) (which : Side) (us : List Word) (a : ℕ) (t : Token) (q : Partial)
-    → IsBeside which us → operand_begun which t ≡ Some q → IsPartial catalog raw slot.Test q (us ++ word a t ∷ [])
-operand-first catalog raw which us a (Bare text) q beside h =
-    named-first catalog raw slot.Test (purpose.Operand which) us (word a (Bare text)) q (name_of (Bare text)) refl (before_operand a which us beside) h
-operand-first catalog raw which us a (Number n) q beside h =
-    int-first catalog raw which us (number_at a n ∷ []) q (int_of n) beside (λ z is. of_number a n z is) h
-operand-first catalog raw which us a (Quoted text) q beside h =
-    subst (λ r. IsPartial catalog raw slot.Test r (us ++ quoted_at a text ∷ [])) (some_is (operand_read which (operand.Words (undoubled text))) q h)
-    (operand-means catalog raw which (operand.Words (undoubled text)) us (quoted_at a text ∷ []) beside (of_text a text))
-operand-first catalog raw which us a (Sign symbol.Minus) q beside h =
-    subst (λ r. IsPartial catalog raw slot.Test r (us ++ sign_at a symbol.Minus ∷ [])) (some_is (partial.Minus which) q h)
-    (refl, is_minus a which us beside)
-operand-first catalog raw which us a (Sign symbol.AtMost) q beside h = absurd (none_some q h)
-operand-first catalog raw which us a (Sign symbol.AtLeast) q beside h = absurd (none_some q h)
-operand-first catalog raw which us a (Sign symbol.Unequal) q beside h = absurd (none_some q h)
-operand-first catalog raw which us a (Sign symbol.Open) q beside h = absurd (none_some q h)
-operand-first catalog raw which us a (Sign symbol.Close) q beside h = absurd (none_some q h)
-operand-first catalog raw which us a (Sign symbol.Comma) q beside h = absurd (none_some q h)
-operand-first catalog raw which us a (Sign symbol.Dot) q beside h = absurd (none_some q h)
-operand-first catalog raw which us a (Sign symbol.Star) q beside h = absurd (none_some q h)
-operand-first catalog raw which us a (Sign symbol.Equal) q beside h = absurd (none_some q h)
-operand-first catalog raw which us a (Sign symbol.Less) q beside h = absurd (none_some q h)
-operand-first catalog raw which us a (Sign symbol.Greater) q beside h = absurd (none_some q h)
-operand-first catalog raw which us a (Sign symbol.Semicolon) q beside h = absurd (none_some q h)
+operand-first : (catalog : List CatalogTable) (raw : RawSelect) (s : Slot) (which : Side) (us : List Word) (a : ℕ) (t : Token) (q : Partial)
+    → takes_test s ≡ true → IsBeside which us → operand_begun which t ≡ Some q → IsPartial catalog raw s q (us ++ word a t ∷ [])
+operand-first catalog raw s which us a (Bare text) q takes beside h =
+    named-first catalog raw s (purpose.Operand which) us (word a (Bare text)) q (name_of (Bare text)) refl
+    (before_operand s a which us takes beside) h
+operand-first catalog raw s which us a (Number n) q takes beside h =
+    int-first catalog raw s which us (number_at a n ∷ []) q (int_of n) takes beside (λ z is. of_number a n z is) h
+operand-first catalog raw s which us a (Quoted text) q takes beside h =
+    subst (λ r. IsPartial catalog raw s r (us ++ quoted_at a text ∷ [])) (some_is (operand_read which (operand.Words (undoubled text))) q h)
+    (operand-means catalog raw s which (operand.Words (undoubled text)) us (quoted_at a text ∷ []) takes beside (of_text a text))
+operand-first catalog raw s which us a (Sign symbol.Minus) q takes beside h =
+    subst (λ r. IsPartial catalog raw s r (us ++ sign_at a symbol.Minus ∷ [])) (some_is (partial.Minus which) q h)
+    (takes, is_minus a which us beside)
+operand-first catalog raw s which us a (Sign symbol.AtMost) q takes beside h = absurd (none_some q h)
+operand-first catalog raw s which us a (Sign symbol.AtLeast) q takes beside h = absurd (none_some q h)
+operand-first catalog raw s which us a (Sign symbol.Unequal) q takes beside h = absurd (none_some q h)
+operand-first catalog raw s which us a (Sign symbol.Open) q takes beside h = absurd (none_some q h)
+operand-first catalog raw s which us a (Sign symbol.Close) q takes beside h = absurd (none_some q h)
+operand-first catalog raw s which us a (Sign symbol.Comma) q takes beside h = absurd (none_some q h)
+operand-first catalog raw s which us a (Sign symbol.Dot) q takes beside h = absurd (none_some q h)
+operand-first catalog raw s which us a (Sign symbol.Star) q takes beside h = absurd (none_some q h)
+operand-first catalog raw s which us a (Sign symbol.Equal) q takes beside h = absurd (none_some q h)
+operand-first catalog raw s which us a (Sign symbol.Less) q takes beside h = absurd (none_some q h)
+operand-first catalog raw s which us a (Sign symbol.Greater) q takes beside h = absurd (none_some q h)
+operand-first catalog raw s which us a (Sign symbol.Semicolon) q takes beside h = absurd (none_some q h)
+
+value-first : (catalog : List CatalogTable) (raw : RawSelect) (s : Slot) (w : Word) (q : Partial) (o : Option Function) → takes_item s ≡ true
+    → function_in w.says ≡ o → value_begun w.place o w.says ≡ Some q → IsPartial catalog raw s q (w ∷ [])
+value-first catalog raw s w q None takes is h =
+    named-first catalog raw s (purpose.Item w.place) [] w q (name_of w.says) refl (before_item s w.place takes) h
+value-first catalog raw s w q (Some f) takes is h =
+    subst (λ r. IsPartial catalog raw s r (w ∷ [])) (some_is (partial.Function w.place f) q h)
+    (takes, ap (λ v. v ∷ []) (word-function w f is))
 
 item-first : (catalog : List CatalogTable) (raw : RawSelect) (s : Slot) (w : Word) (q : Partial) → takes_item s ≡ true
     → item_begun w ≡ Some q → IsPartial catalog raw s q (w ∷ [])
-item-first catalog raw s w q takes h =
-    named-first catalog raw s (purpose.Item w.place) [] w q (name_of w.says) refl (before_item s w.place takes) h
+item-first catalog raw s w q takes h = value-first catalog raw s w q (function_in w.says) takes refl h
 
 list-first : (catalog : List CatalogTable) (raw : RawSelect) (a : ℕ) (t : Token) (q : Partial) → list_begun a t ≡ Some q
     → IsPartial catalog raw slot.List q (word a t ∷ [])
@@ -179,12 +210,12 @@ list-first catalog raw a (Sign symbol.Greater) q h = absurd (none_some q h)
 list-first catalog raw a (Sign symbol.Semicolon) q h = absurd (none_some q h)
 list-first catalog raw a (Sign symbol.Minus) q h = absurd (none_some q h)
 
-table-first : (catalog : List CatalogTable) (raw : RawSelect) (w : Word) (q : Partial) (o : Option Name) → name_of w.says ≡ o
-    → option_map (λ n. partial.TableNamed n) o ≡ Some q → IsPartial catalog raw slot.Table q (w ∷ [])
-table-first catalog raw w q None is h = absurd (none_some q h)
-table-first catalog raw w q (Some n) is h =
-    subst (λ r. IsPartial catalog raw slot.Table r (w ∷ [])) (some_is (partial.TableNamed n) q h)
-    (refl, (w.place, ap (λ v. v ∷ []) (word-name w n is)))
+table-first : (catalog : List CatalogTable) (raw : RawSelect) (s : Slot) (w : Word) (q : Partial) (o : Option Name) → takes_table s ≡ true → name_of w.says ≡ o
+    → option_map (λ n. partial.TableNamed n) o ≡ Some q → IsPartial catalog raw s q (w ∷ [])
+table-first catalog raw s w q None takes is h = absurd (none_some q h)
+table-first catalog raw s w q (Some n) takes is h =
+    subst (λ r. IsPartial catalog raw s r (w ∷ [])) (some_is (partial.TableNamed n) q h)
+    (takes, (w.place, ap (λ v. v ∷ []) (word-name w n is)))
 
 key_name-first : (catalog : List CatalogTable) (raw : RawSelect) (w : Word) (q : Partial) (o : Option Name) → name_of w.says ≡ o
     → option_map (λ n. partial.KeyBy (by.Name n)) o ≡ Some q → IsPartial catalog raw slot.Key q (w ∷ [])
@@ -223,8 +254,12 @@ begun-first : (catalog : List CatalogTable) (raw : RawSelect) (s : Slot) (w : Wo
     → IsPartial catalog raw s q (w ∷ [])
 begun-first catalog raw slot.List w q h = list-first catalog raw w.place w.says q h
 begun-first catalog raw slot.Item w q h = item-first catalog raw slot.Item w q refl h
-begun-first catalog raw slot.Table w q h = table-first catalog raw w q (name_of w.says) refl h
-begun-first catalog raw slot.Test w q h = operand-first catalog raw side.Left [] w.place w.says q beside_left h
+begun-first catalog raw slot.Table w q h = table-first catalog raw slot.Table w q (name_of w.says) refl refl h
+begun-first catalog raw slot.Joined w q h = table-first catalog raw slot.Joined w q (name_of w.says) refl refl h
+begun-first catalog raw slot.On w q h = operand-first catalog raw slot.On side.Left [] w.place w.says q refl beside_left h
+begun-first catalog raw slot.Test w q h = operand-first catalog raw slot.Test side.Left [] w.place w.says q refl beside_left h
+begun-first catalog raw slot.Group w q h =
+    named-first catalog raw slot.Group purpose.Group [] w q (name_of w.says) refl (before_group w.place) h
 begun-first catalog raw slot.Key w q h = key-first catalog raw w.place w.says q h
 begun-first catalog raw slot.Limit w q h = limit-first catalog raw w.place w.says q h
 
@@ -234,14 +269,64 @@ pub begun-room : (catalog : List CatalogTable) (raw : RawSelect) (s : Slot) (w :
 begun-room catalog raw s w q true h = (refl, h)
 begun-room catalog raw s w q false h = absurd (none_some q h)
 
-column-goes : (catalog : List CatalogTable) (raw : RawSelect) (s : Slot) (a : ℕ) (r : Reference) (us : List Word) (w : Word) (q : Partial) (b : Bool)
-    → is_key w.says (codes "AS") ≡ b → takes_item s ≡ true → IsColumn a r us
-    → (if b then Goes (partial.ColumnAs a r) else Ends (part.Item (item_of a r))) ≡ Goes q → IsPartial catalog raw s q (us ++ w ∷ [])
-column-goes catalog raw s a r us w q true is takes column h =
-    subst (λ v. IsPartial catalog raw s q (us ++ v ∷ [])) (sym (word-key w (codes "AS") is))
-    (subst (λ y. IsPartial catalog raw s y (us ++ key_at w.place (codes "AS") ∷ [])) (goes_is (partial.ColumnAs a r) q h)
-    (takes, is_column_as a w.place r us column))
-column-goes catalog raw s a r us w q false is takes column h = absurd (ends_goes (part.Item (item_of a r)) q h)
+value-goes : (catalog : List CatalogTable) (raw : RawSelect) (s : Slot) (a : ℕ) (v : RawValue) (us : List Word) (w : Word) (q : Partial) (b : Bool)
+    → is_key w.says (codes "AS") ≡ b → takes_item s ≡ true → IsValue a v us
+    → (if b then Goes (partial.ValueAs a v) else Ends (part.Item (item_of a v))) ≡ Goes q → IsPartial catalog raw s q (us ++ w ∷ [])
+value-goes catalog raw s a v us w q true is takes gives h =
+    subst (λ x. IsPartial catalog raw s q (us ++ x ∷ [])) (sym (word-key w (codes "AS") is))
+    (subst (λ y. IsPartial catalog raw s y (us ++ key_at w.place (codes "AS") ∷ [])) (goes_is (partial.ValueAs a v) q h)
+    (takes, is_value_as a w.place v us gives))
+value-goes catalog raw s a v us w q false is takes gives h = absurd (ends_goes (part.Item (item_of a v)) q h)
+
+unclosed-goes : (catalog : List CatalogTable) (raw : RawSelect) (s : Slot) (a : ℕ) (v : RawValue) (us : List Word) (w : Word) (q : Partial) (b : Bool)
+    → is_close w.says ≡ b → takes_item s ≡ true → IsUnclosed a v us
+    → (if b then Goes (partial.Value a v) else Stops) ≡ Goes q → IsPartial catalog raw s q (us ++ w ∷ [])
+unclosed-goes catalog raw s a v us w q true is takes unclosed h =
+    subst (λ x. IsPartial catalog raw s q (us ++ x ∷ [])) (sym (word-close w is))
+    (subst (λ y. IsPartial catalog raw s y (us ++ sign_at w.place symbol.Close ∷ [])) (goes_is (partial.Value a v) q h)
+    (takes, closes a w.place v us unclosed))
+unclosed-goes catalog raw s a v us w q false is takes unclosed h = absurd (stops_goes q h)
+
+function-goes : (catalog : List CatalogTable) (raw : RawSelect) (s : Slot) (a : ℕ) (f : Function) (w : Word) (q : Partial) (b : Bool)
+    → is_open w.says ≡ b → takes_item s ≡ true → (if b then Goes (partial.Opened a f) else Stops) ≡ Goes q
+    → IsPartial catalog raw s q (key_at a (function_word f) ∷ w ∷ [])
+function-goes catalog raw s a f w q true is takes h =
+    subst (λ y. IsPartial catalog raw s y (key_at a (function_word f) ∷ w ∷ [])) (goes_is (partial.Opened a f) q h)
+    (takes, (w.place, ap (λ x. key_at a (function_word f) ∷ x ∷ []) (word-open w is)))
+function-goes catalog raw s a f w q false is takes h = absurd (stops_goes q h)
+
+both : (b c : Bool) → (b && c) ≡ true → (b ≡ true) × (c ≡ true)
+both true c h = (refl, h)
+both false c h = absurd cc
+
+count_is : (f : Function) → is_count f ≡ true → f ≡ function.Count
+count_is function.Count h = refl
+count_is function.Sum h = absurd cc
+count_is function.Min h = absurd cc
+count_is function.Max h = absurd cc
+
+-- the words before a function's column
+abbrev opened : ℕ → ℕ → Function → List Word
+opened a b f = key_at a (function_word f) ∷ sign_at b symbol.Open ∷ []
+
+counts-all : (a b : ℕ) (f : Function) (w : Word) → (is_count f && is_star w.says) ≡ true
+    → IsUnclosed a value.CountAll (opened a b f ++ w ∷ [])
+counts-all a b f w is =
+    let parts = both (is_count f) (is_star w.says) is in
+    subst (λ g. IsUnclosed a value.CountAll (opened a b g ++ w ∷ [])) (sym (count_is f parts.0))
+    (subst (λ x. IsUnclosed a value.CountAll (opened a b function.Count ++ x ∷ [])) (sym (word-star w parts.1)) (unclosed_all a b w.place))
+
+opened-goes : (catalog : List CatalogTable) (raw : RawSelect) (s : Slot) (a b : ℕ) (f : Function) (w : Word) (q : Partial) (c : Bool)
+    → (is_count f && is_star w.says) ≡ c → takes_item s ≡ true
+    → (if c then Goes (partial.Unclosed a value.CountAll)
+    else goes (option_map (λ n. partial.Named (purpose.Argument a f) n) (name_of w.says))) ≡ Goes q
+    → IsPartial catalog raw s q (opened a b f ++ w ∷ [])
+opened-goes catalog raw s a b f w q true is takes h =
+    subst (λ y. IsPartial catalog raw s y (opened a b f ++ w ∷ [])) (goes_is (partial.Unclosed a value.CountAll) q h)
+    (takes, counts-all a b f w is)
+opened-goes catalog raw s a b f w q false is takes h =
+    named-first catalog raw s (purpose.Argument a f) (opened a b f) w q (name_of w.says) refl (before_argument s a b w.place f takes)
+    (goes-some (option_map (λ n. partial.Named (purpose.Argument a f) n) (name_of w.says)) q h)
 
 op-beside : (l : RawOperand) (o : Op) (us : List Word) (a : ℕ) (t : Token) → op_in t ≡ Some o → IsOperand l us
     → IsBeside (side.Right l o a) (us ++ word a t ∷ [])
@@ -250,23 +335,28 @@ op-beside l o us a (Bare text) is left = absurd (none_some o is)
 op-beside l o us a (Number n) is left = absurd (none_some o is)
 op-beside l o us a (Quoted text) is left = absurd (none_some o is)
 
-left-goes : (catalog : List CatalogTable) (raw : RawSelect) (l : RawOperand) (us : List Word) (w : Word) (q : Partial) (o : Option Op)
-    → op_in w.says ≡ o → IsOperand l us → goes (option_map (λ x. partial.Compared l x w.place) o) ≡ Goes q
-    → IsPartial catalog raw slot.Test q (us ++ w ∷ [])
-left-goes catalog raw l us w q None is left h = absurd (stops_goes q h)
-left-goes catalog raw l us w q (Some o) is left h =
-    subst (λ y. IsPartial catalog raw slot.Test y (us ++ w ∷ [])) (goes_is (partial.Compared l o w.place) q h)
-    (refl, op-beside l o us w.place w.says is left)
+left-goes : (catalog : List CatalogTable) (raw : RawSelect) (s : Slot) (l : RawOperand) (us : List Word) (w : Word) (q : Partial) (o : Option Op)
+    → takes_test s ≡ true → op_in w.says ≡ o → IsOperand l us → goes (option_map (λ x. partial.Compared l x w.place) o) ≡ Goes q
+    → IsPartial catalog raw s q (us ++ w ∷ [])
+left-goes catalog raw s l us w q None takes is left h = absurd (stops_goes q h)
+left-goes catalog raw s l us w q (Some o) takes is left h =
+    subst (λ y. IsPartial catalog raw s y (us ++ w ∷ [])) (goes_is (partial.Compared l o w.place) q h)
+    (takes, op-beside l o us w.place w.says is left)
 
 unqualified-goes : (catalog : List CatalogTable) (raw : RawSelect) (s : Slot) (p : Purpose) (n : Name) (a : ℕ) (us : List Word) (w : Word) (q : Partial)
     → IsBefore s p a us → unqualified_turn p n w ≡ Goes q → IsPartial catalog raw s q ((us ++ name_at a n ∷ []) ++ w ∷ [])
 unqualified-goes catalog raw _ _ n _ _ w q (before_item s a takes) h =
-    column-goes catalog raw s a (bare_column n) (name_at a n ∷ []) w q (is_key w.says (codes "AS")) refl takes (unqualified a n) h
-unqualified-goes catalog raw _ _ n _ _ w q (before_operand a _ _ beside_left) h =
-    left-goes catalog raw (operand.Column (bare_column n)) (name_at a n ∷ []) w q (op_in w.says) refl
+    value-goes catalog raw s a (value.Column (bare_column n)) (name_at a n ∷ []) w q (is_key w.says (codes "AS")) refl takes
+    (plain a (bare_column n) (name_at a n ∷ []) (unqualified a n)) h
+unqualified-goes catalog raw _ _ n _ _ w q (before_argument s a b c f takes) h =
+    unclosed-goes catalog raw s a (value.Of f (bare_column n)) (opened a b f ++ name_at c n ∷ []) w q (is_close w.says) refl takes
+    (unclosed_of a b c f (bare_column n) (name_at c n ∷ []) (unqualified c n)) h
+unqualified-goes catalog raw _ _ n _ _ w q (before_operand s a _ _ takes beside_left) h =
+    left-goes catalog raw s (operand.Column (bare_column n)) (name_at a n ∷ []) w q (op_in w.says) takes refl
     (of_column a (bare_column n) (name_at a n ∷ []) (unqualified a n)) h
-unqualified-goes catalog raw _ _ n _ _ w q (before_operand a _ _ (beside_right b l s o ls left sign)) h =
+unqualified-goes catalog raw _ _ n _ _ w q (before_operand s a _ _ takes (beside_right b l t o ls left sign)) h =
     absurd (ends_goes (part.Test (test_of l o b (operand.Column (bare_column n)))) q h)
+unqualified-goes catalog raw _ _ n _ _ w q (before_group a) h = absurd (ends_goes (part.Group (bare_column n)) q h)
 
 named-goes : (catalog : List CatalogTable) (raw : RawSelect) (s : Slot) (p : Purpose) (n : Name) (a : ℕ) (us : List Word) (w : Word) (q : Partial) (b : Bool)
     → is_dot w.says ≡ b → IsBefore s p a us → (if b then Goes (partial.Dotted p n) else unqualified_turn p n w) ≡ Goes q
@@ -293,59 +383,59 @@ after-dotted catalog raw _ _ _ _ w q (Some n) is (is_dotted s p m a b us before)
     (subst (λ v. IsColumn a (qualified_column m n) (name_at a m ∷ sign_at b symbol.Dot ∷ v ∷ [])) (sym (word-name w n is))
     (qualified a b w.place m n))))
 
-after-column_as : (catalog : List CatalogTable) (raw : RawSelect) (s : Slot) (a : ℕ) (r : Reference) (ws : List Word) (w : Word) (q : Partial) (o : Option Name)
-    → name_of w.says ≡ o → takes_item s ≡ true → IsColumnAs a r ws → alias_turn a r o ≡ Goes q → IsPartial catalog raw s q (ws ++ w ∷ [])
-after-column_as catalog raw s a r ws w q None is takes read h = absurd (stops_goes q h)
-after-column_as catalog raw s _ _ _ w q (Some n) is takes (is_column_as a b r us column) h =
-    let i : RawItem = record { place = a; column = r; name = Some n } in
+after-value_as : (catalog : List CatalogTable) (raw : RawSelect) (s : Slot) (a : ℕ) (v : RawValue) (ws : List Word) (w : Word) (q : Partial) (o : Option Name)
+    → name_of w.says ≡ o → takes_item s ≡ true → IsValueAs a v ws → alias_turn a v o ≡ Goes q → IsPartial catalog raw s q (ws ++ w ∷ [])
+after-value_as catalog raw s a v ws w q None is takes read h = absurd (stops_goes q h)
+after-value_as catalog raw s _ _ _ w q (Some n) is takes (is_value_as a b v us gives) h =
+    let i : RawItem = record { place = a; value = v; name = Some n } in
     subst (λ y. IsPartial catalog raw s y ((us ++ key_at b (codes "AS") ∷ []) ++ w ∷ [])) (goes_is (partial.Item i) q h) (
       takes,
       subst (λ l. IsItem i l) (sym (append_assoc us (key_at b (codes "AS") ∷ []) (w ∷ [])))
-          (subst (λ v. IsItem i (us ++ key_at b (codes "AS") ∷ v ∷ [])) (sym (word-name w n is)) (named_as a b w.place r n us column)),
+          (subst (λ x. IsItem i (us ++ key_at b (codes "AS") ∷ x ∷ [])) (sym (word-name w n is)) (named_as a b w.place v n us gives)),
     )
 
-after-table_name : (catalog : List CatalogTable) (raw : RawSelect) (n : Name) (a : ℕ) (w : Word) (q : Partial) (o : Option Name)
-    → name_of w.says ≡ o → called_turn n o ≡ Goes q → IsPartial catalog raw slot.Table q (name_at a n ∷ w ∷ [])
-after-table_name catalog raw n a w q None is h = absurd (ends_goes (part.Table (record { name = n; call = n })) q h)
-after-table_name catalog raw n a w q (Some m) is h =
-    subst (λ y. IsPartial catalog raw slot.Table y (name_at a n ∷ w ∷ [])) (goes_is (partial.Table (record { name = n; call = m })) q h)
-    (refl, subst (λ v. IsTable (record { name = n; call = m }) (name_at a n ∷ v ∷ [])) (sym (word-name w m is)) (called a w.place n m))
+after-table_name : (catalog : List CatalogTable) (raw : RawSelect) (s : Slot) (n : Name) (a : ℕ) (w : Word) (q : Partial) (o : Option Name)
+    → takes_table s ≡ true → name_of w.says ≡ o → called_turn n o ≡ Goes q → IsPartial catalog raw s q (name_at a n ∷ w ∷ [])
+after-table_name catalog raw s n a w q None takes is h = absurd (ends_goes (part.Table (record { name = n; call = n })) q h)
+after-table_name catalog raw s n a w q (Some m) takes is h =
+    subst (λ y. IsPartial catalog raw s y (name_at a n ∷ w ∷ [])) (goes_is (partial.Table (record { name = n; call = m })) q h)
+    (takes, subst (λ v. IsTable (record { name = n; call = m }) (name_at a n ∷ v ∷ [])) (sym (word-name w m is)) (called a w.place n m))
 
-after-table : (catalog : List CatalogTable) (raw : RawSelect) (n : Name) (a : ℕ) (w : Word) (q : Partial) (b : Bool)
-    → is_key w.says (codes "AS") ≡ b → (if b then Goes (partial.TableAs n) else called_turn n (name_of w.says)) ≡ Goes q
-    → IsPartial catalog raw slot.Table q (name_at a n ∷ w ∷ [])
-after-table catalog raw n a w q true is h =
-    subst (λ y. IsPartial catalog raw slot.Table y (name_at a n ∷ w ∷ [])) (goes_is (partial.TableAs n) q h)
-    (refl, (a, w.place, ap (λ v. name_at a n ∷ v ∷ []) (word-key w (codes "AS") is)))
-after-table catalog raw n a w q false is h = after-table_name catalog raw n a w q (name_of w.says) refl h
+after-table : (catalog : List CatalogTable) (raw : RawSelect) (s : Slot) (n : Name) (a : ℕ) (w : Word) (q : Partial) (b : Bool)
+    → takes_table s ≡ true → is_key w.says (codes "AS") ≡ b → (if b then Goes (partial.TableAs n) else called_turn n (name_of w.says)) ≡ Goes q
+    → IsPartial catalog raw s q (name_at a n ∷ w ∷ [])
+after-table catalog raw s n a w q true takes is h =
+    subst (λ y. IsPartial catalog raw s y (name_at a n ∷ w ∷ [])) (goes_is (partial.TableAs n) q h)
+    (takes, (a, w.place, ap (λ v. name_at a n ∷ v ∷ []) (word-key w (codes "AS") is)))
+after-table catalog raw s n a w q false takes is h = after-table_name catalog raw s n a w q (name_of w.says) takes refl h
 
-after-table_as : (catalog : List CatalogTable) (raw : RawSelect) (n : Name) (a b : ℕ) (w : Word) (q : Partial) (o : Option Name)
-    → name_of w.says ≡ o → call_turn n o ≡ Goes q → IsPartial catalog raw slot.Table q (name_at a n ∷ key_at b (codes "AS") ∷ w ∷ [])
-after-table_as catalog raw n a b w q None is h = absurd (stops_goes q h)
-after-table_as catalog raw n a b w q (Some m) is h =
+after-table_as : (catalog : List CatalogTable) (raw : RawSelect) (s : Slot) (n : Name) (a b : ℕ) (w : Word) (q : Partial) (o : Option Name)
+    → takes_table s ≡ true → name_of w.says ≡ o → call_turn n o ≡ Goes q → IsPartial catalog raw s q (name_at a n ∷ key_at b (codes "AS") ∷ w ∷ [])
+after-table_as catalog raw s n a b w q None takes is h = absurd (stops_goes q h)
+after-table_as catalog raw s n a b w q (Some m) takes is h =
     let t : RawTable = record { name = n; call = m } in
-    subst (λ y. IsPartial catalog raw slot.Table y (name_at a n ∷ key_at b (codes "AS") ∷ w ∷ [])) (goes_is (partial.Table t) q h) (
-      refl,
+    subst (λ y. IsPartial catalog raw s y (name_at a n ∷ key_at b (codes "AS") ∷ w ∷ [])) (goes_is (partial.Table t) q h) (
+      takes,
       subst (λ v. IsTable t (name_at a n ∷ key_at b (codes "AS") ∷ v ∷ [])) (sym (word-name w m is)) (called_as a b w.place n m),
     )
 
-negative-goes : (catalog : List CatalogTable) (raw : RawSelect) (which : Side) (us : List Word) (a b n : ℕ) (q : Partial) (o : Option ℤ)
-    → negative_of n ≡ o → IsBeside which us → goes (int_read which o) ≡ Goes q
-    → IsPartial catalog raw slot.Test q (us ++ sign_at a symbol.Minus ∷ number_at b n ∷ [])
-negative-goes catalog raw which us a b n q None is beside h = absurd (stops_goes q h)
-negative-goes catalog raw which us a b n q (Some z) is beside h =
+negative-goes : (catalog : List CatalogTable) (raw : RawSelect) (s : Slot) (which : Side) (us : List Word) (a b n : ℕ) (q : Partial) (o : Option ℤ)
+    → takes_test s ≡ true → negative_of n ≡ o → IsBeside which us → goes (int_read which o) ≡ Goes q
+    → IsPartial catalog raw s q (us ++ sign_at a symbol.Minus ∷ number_at b n ∷ [])
+negative-goes catalog raw s which us a b n q None takes is beside h = absurd (stops_goes q h)
+negative-goes catalog raw s which us a b n q (Some z) takes is beside h =
     let vs : List Word = sign_at a symbol.Minus ∷ number_at b n ∷ [] in
-    subst (λ y. IsPartial catalog raw slot.Test y (us ++ vs)) (goes_is (operand_read which (operand.Int z)) q h)
-    (operand-means catalog raw which (operand.Int z) us vs beside (of_negative a b n z is))
+    subst (λ y. IsPartial catalog raw s y (us ++ vs)) (goes_is (operand_read which (operand.Int z)) q h)
+    (operand-means catalog raw s which (operand.Int z) us vs takes beside (of_negative a b n z is))
 
-after-minus : (catalog : List CatalogTable) (raw : RawSelect) (which : Side) (ws : List Word) (b : ℕ) (t : Token) (q : Partial)
-    → IsMinus which ws → minus_turn which t ≡ Goes q → IsPartial catalog raw slot.Test q (ws ++ word b t ∷ [])
-after-minus catalog raw _ _ b (Number n) q (is_minus a which us beside) h =
-    subst (λ l. IsPartial catalog raw slot.Test q l) (sym (append_assoc us (sign_at a symbol.Minus ∷ []) (number_at b n ∷ [])))
-    (negative-goes catalog raw which us a b n q (negative_of n) refl beside h)
-after-minus catalog raw which ws b (Bare text) q m h = absurd (stops_goes q h)
-after-minus catalog raw which ws b (Quoted text) q m h = absurd (stops_goes q h)
-after-minus catalog raw which ws b (Sign s) q m h = absurd (stops_goes q h)
+after-minus : (catalog : List CatalogTable) (raw : RawSelect) (s : Slot) (which : Side) (ws : List Word) (b : ℕ) (t : Token) (q : Partial)
+    → takes_test s ≡ true → IsMinus which ws → minus_turn which t ≡ Goes q → IsPartial catalog raw s q (ws ++ word b t ∷ [])
+after-minus catalog raw s _ _ b (Number n) q takes (is_minus a which us beside) h =
+    subst (λ l. IsPartial catalog raw s q l) (sym (append_assoc us (sign_at a symbol.Minus ∷ []) (number_at b n ∷ [])))
+    (negative-goes catalog raw s which us a b n q (negative_of n) takes refl beside h)
+after-minus catalog raw s which ws b (Bare text) q takes m h = absurd (stops_goes q h)
+after-minus catalog raw s which ws b (Quoted text) q takes m h = absurd (stops_goes q h)
+after-minus catalog raw s which ws b (Sign g) q takes m h = absurd (stops_goes q h)
 
 after-key : (catalog : List CatalogTable) (raw : RawSelect) (k : KeyBy) (ws : List Word) (w : Word) (q : Partial) (b c : Bool)
     → is_key w.says (codes "ASC") ≡ b → is_key w.says (codes "DESC") ≡ c → IsKeyBy catalog raw k ws
@@ -366,34 +456,35 @@ after-key catalog raw k ws w q false false is is_desc by h = absurd (ends_goes (
 
 -- a turn keeps what the words are
 pub turn-means : (catalog : List CatalogTable) (raw : RawSelect) (s : Slot) (p : Partial) (ws : List Word) (w : Word) (q : Partial)
-    → IsPartial catalog raw s p ws → turn catalog raw p w ≡ Goes q → IsPartial catalog raw s q (ws ++ w ∷ [])
-turn-means catalog raw s (partial.Due d) ws w q m h =
-    let begins = begun-room catalog raw d w q (has_room raw d) (goes-some (begun catalog raw d w) q h) in
-    subst (λ l. IsPartial catalog raw s q (l ++ w ∷ [])) (sym m.1)
-    (subst (λ z. IsPartial catalog raw z q (w ∷ [])) m.0 (begun-first catalog raw d w q begins.1))
+    → IsPartial catalog raw s p ws → turn catalog raw s p w ≡ Goes q → IsPartial catalog raw s q (ws ++ w ∷ [])
+turn-means catalog raw s partial.Due ws w q m h =
+    let begins = begun-room catalog raw s w q (has_room raw s) (goes-some (begun catalog raw s w) q h) in
+    subst (λ l. IsPartial catalog raw s q (l ++ w ∷ [])) (sym m) (begun-first catalog raw s w q begins.1)
 turn-means catalog raw s (partial.All a) ws w q m h = absurd (ends_goes (part.All a) q h)
 turn-means catalog raw s (partial.Named p n) ws w q m h = after-named catalog raw s p n ws w q m h
 turn-means catalog raw s (partial.Dotted p n) ws w q m h = after-dotted catalog raw s p n ws w q (name_of w.says) refl m h
-turn-means catalog raw s (partial.Column a r) ws w q m h = column-goes catalog raw s a r ws w q (is_key w.says (codes "AS")) refl m.0 m.1 h
-turn-means catalog raw s (partial.ColumnAs a r) ws w q m h = after-column_as catalog raw s a r ws w q (name_of w.says) refl m.0 m.1 h
+turn-means catalog raw s (partial.Function a f) ws w q m h =
+    subst (λ l. IsPartial catalog raw s q (l ++ w ∷ [])) (sym m.1) (function-goes catalog raw s a f w q (is_open w.says) refl m.0 h)
+turn-means catalog raw s (partial.Opened a f) ws w q m h =
+    subst (λ l. IsPartial catalog raw s q (l ++ w ∷ [])) (sym m.1.1)
+    (opened-goes catalog raw s a m.1.0 f w q (is_count f && is_star w.says) refl m.0 h)
+turn-means catalog raw s (partial.Unclosed a v) ws w q m h = unclosed-goes catalog raw s a v ws w q (is_close w.says) refl m.0 m.1 h
+turn-means catalog raw s (partial.Value a v) ws w q m h = value-goes catalog raw s a v ws w q (is_key w.says (codes "AS")) refl m.0 m.1 h
+turn-means catalog raw s (partial.ValueAs a v) ws w q m h = after-value_as catalog raw s a v ws w q (name_of w.says) refl m.0 m.1 h
 turn-means catalog raw s (partial.Item i) ws w q m h = absurd (ends_goes (part.Item i) q h)
 turn-means catalog raw s (partial.TableNamed n) ws w q m h =
     subst (λ l. IsPartial catalog raw s q (l ++ w ∷ [])) (sym m.1.1)
-    (subst (λ z. IsPartial catalog raw z q (name_at m.1.0 n ∷ w ∷ [])) m.0
-    (after-table catalog raw n m.1.0 w q (is_key w.says (codes "AS")) refl h))
+    (after-table catalog raw s n m.1.0 w q (is_key w.says (codes "AS")) m.0 refl h)
 turn-means catalog raw s (partial.TableAs n) ws w q m h =
     subst (λ l. IsPartial catalog raw s q (l ++ w ∷ [])) (sym m.1.2)
-    (subst (λ z. IsPartial catalog raw z q (name_at m.1.0 n ∷ key_at m.1.1 (codes "AS") ∷ w ∷ [])) m.0
-    (after-table_as catalog raw n m.1.0 m.1.1 w q (name_of w.says) refl h))
+    (after-table_as catalog raw s n m.1.0 m.1.1 w q (name_of w.says) m.0 refl h)
 turn-means catalog raw s (partial.Table t) ws w q m h = absurd (ends_goes (part.Table t) q h)
-turn-means catalog raw s (partial.Minus which) ws w q m h =
-    subst (λ z. IsPartial catalog raw z q (ws ++ w ∷ [])) m.0 (after-minus catalog raw which ws w.place w.says q m.1 h)
-turn-means catalog raw s (partial.Left l) ws w q m h =
-    subst (λ z. IsPartial catalog raw z q (ws ++ w ∷ [])) m.0 (left-goes catalog raw l ws w q (op_in w.says) refl m.1 h)
+turn-means catalog raw s (partial.Minus which) ws w q m h = after-minus catalog raw s which ws w.place w.says q m.0 m.1 h
+turn-means catalog raw s (partial.Left l) ws w q m h = left-goes catalog raw s l ws w q (op_in w.says) m.0 refl m.1 h
 turn-means catalog raw s (partial.Compared l o a) ws w q m h =
-    subst (λ z. IsPartial catalog raw z q (ws ++ w ∷ [])) m.0
-    (operand-first catalog raw (side.Right l o a) ws w.place w.says q m.1 (goes-some (operand_begun (side.Right l o a) w.says) q h))
+    operand-first catalog raw s (side.Right l o a) ws w.place w.says q m.0 m.1 (goes-some (operand_begun (side.Right l o a) w.says) q h)
 turn-means catalog raw s (partial.Test t) ws w q m h = absurd (ends_goes (part.Test t) q h)
+turn-means catalog raw s (partial.Group r) ws w q m h = absurd (ends_goes (part.Group r) q h)
 turn-means catalog raw s (partial.KeyBy k) ws w q m h =
     subst (λ z. IsPartial catalog raw z q (ws ++ w ∷ [])) m.0
     (after-key catalog raw k ws w q (is_key w.says (codes "ASC")) (is_key w.says (codes "DESC")) refl refl m.1 h)

@@ -10,6 +10,8 @@ use Rattle.rm_words.specs.declared.token.Symbol.TheVariants as symbol
 use Rattle.rm_words.specs.Token.{undoubled}
 use Rattle.query_plan.specs.declared.part.Clause.{Clause}
 use Rattle.query_plan.specs.declared.part.Clause.TheVariants as clause
+use Rattle.query_plan.specs.declared.raw.Function.{Function}
+use Rattle.query_plan.specs.declared.raw.Function.TheVariants as function
 use Rattle.query_plan.specs.declared.raw.KeyBy.{KeyBy}
 use Rattle.query_plan.specs.declared.raw.KeyBy.TheVariants as by
 use Rattle.query_plan.specs.declared.raw.RawItem.{RawItem}
@@ -21,6 +23,8 @@ use Rattle.query_plan.specs.declared.raw.RawPart.TheVariants as part
 use Rattle.query_plan.specs.declared.raw.RawSelect.{RawSelect}
 use Rattle.query_plan.specs.declared.raw.RawTable.{RawTable}
 use Rattle.query_plan.specs.declared.raw.RawTest.{RawTest}
+use Rattle.query_plan.specs.declared.raw.RawValue.{RawValue}
+use Rattle.query_plan.specs.declared.raw.RawValue.TheVariants as value
 use Rattle.query_plan.specs.declared.raw.Reference.{Reference}
 use Rattle.query_plan.specs.declared.raw.Slot.{Slot}
 use Rattle.query_plan.specs.declared.raw.Slot.TheVariants as slot
@@ -60,12 +64,27 @@ pub data IsColumn : ℕ → Reference → List Word → Type 0 where
   qualified : (a b c : ℕ) (q n : Name)
       → IsColumn a (qualified_column q n) (name_at a q ∷ sign_at b symbol.Dot ∷ name_at c n ∷ [])
 
+-- the key word of a function
+abbrev pub function_word : Function → List ℕ
+function_word function.Count = codes "COUNT"
+function_word function.Sum = codes "SUM"
+function_word function.Min = codes "MIN"
+function_word function.Max = codes "MAX"
+
+-- what an item gives whose first word starts at a place
+pub data IsValue : ℕ → RawValue → List Word → Type 0 where
+  plain : (a : ℕ) (r : Reference) (ws : List Word) → IsColumn a r ws → IsValue a (value.Column r) ws
+  count_all : (a b c d : ℕ)
+      → IsValue a value.CountAll (key_at a (codes "COUNT") ∷ sign_at b symbol.Open ∷ sign_at c symbol.Star ∷ sign_at d symbol.Close ∷ [])
+  function_of : (a b c d : ℕ) (f : Function) (r : Reference) (ws : List Word) → IsColumn c r ws
+      → IsValue a (value.Of f r) (((key_at a (function_word f) ∷ sign_at b symbol.Open ∷ []) ++ ws) ++ sign_at d symbol.Close ∷ [])
+
 -- an item of the select list
 pub data IsItem : RawItem → List Word → Type 0 where
-  unnamed : (a : ℕ) (r : Reference) (ws : List Word) → IsColumn a r ws
-      → IsItem (record { place = a; column = r; name = None }) ws
-  named_as : (a b c : ℕ) (r : Reference) (n : Name) (ws : List Word) → IsColumn a r ws
-      → IsItem (record { place = a; column = r; name = Some n }) (ws ++ key_at b (codes "AS") ∷ name_at c n ∷ [])
+  unnamed : (a : ℕ) (v : RawValue) (ws : List Word) → IsValue a v ws
+      → IsItem (record { place = a; value = v; name = None }) ws
+  named_as : (a b c : ℕ) (v : RawValue) (n : Name) (ws : List Word) → IsValue a v ws
+      → IsItem (record { place = a; value = v; name = Some n }) (ws ++ key_at b (codes "AS") ∷ name_at c n ∷ [])
 
 -- a table, which is called by its second name or by its own
 pub data IsTable : RawTable → List Word → Type 0 where
@@ -107,23 +126,47 @@ takes_item slot.List = true
 takes_item slot.Item = true
 takes_item _ = false
 
+-- a table is due
+abbrev pub takes_table : Slot → Bool
+takes_table slot.Table = true
+takes_table slot.Joined = true
+takes_table _ = false
+
+-- a comparison is due
+abbrev pub takes_test : Slot → Bool
+takes_test slot.On = true
+takes_test slot.Test = true
+takes_test _ = false
+
 -- what a slot takes, behind what was read
 pub data IsPart (catalog : List CatalogTable) (raw : RawSelect) : Slot → RawPart → List Word → Type 0 where
   all : (a : ℕ) → IsPart catalog raw slot.List (part.All a) (sign_at a symbol.Star ∷ [])
   item : (s : Slot) (i : RawItem) (ws : List Word) → takes_item s ≡ true → IsItem i ws → IsPart catalog raw s (part.Item i) ws
-  table : (t : RawTable) (ws : List Word) → IsTable t ws → IsPart catalog raw slot.Table (part.Table t) ws
-  test : (t : RawTest) (ws : List Word) → IsTest t ws → IsPart catalog raw slot.Test (part.Test t) ws
+  table : (s : Slot) (t : RawTable) (ws : List Word) → takes_table s ≡ true → IsTable t ws → IsPart catalog raw s (part.Table t) ws
+  test : (s : Slot) (t : RawTest) (ws : List Word) → takes_test s ≡ true → IsTest t ws → IsPart catalog raw s (part.Test t) ws
+  group : (a : ℕ) (r : Reference) (ws : List Word) → IsColumn a r ws → IsPart catalog raw slot.Group (part.Group r) ws
   key : (k : RawKey) (ws : List Word) → IsKey catalog raw k ws → IsPart catalog raw slot.Key (part.Key k) ws
   limit : (a n : ℕ) → nat_le n LIMIT_MOST ≡ true → IsPart catalog raw slot.Limit (part.Limit n) (number_at a n ∷ [])
 
--- the clause that a part belongs to
-abbrev pub clause_of : RawPart → Clause
-clause_of (part.All a) = clause.All
-clause_of (part.Item i) = clause.Items
-clause_of (part.Table t) = clause.Tables
-clause_of (part.Test t) = clause.Tests
-clause_of (part.Key k) = clause.Keys
-clause_of (part.Limit n) = clause.Limited
+-- the clause of a table
+abbrev pub table_clause : Slot → Clause
+table_clause slot.Joined = clause.Joined
+table_clause _ = clause.Tables
+
+-- the clause of a comparison
+abbrev pub test_clause : Slot → Clause
+test_clause slot.On = clause.Ons
+test_clause _ = clause.Tests
+
+-- the clause that a part belongs to, by what was due
+abbrev pub clause_of : Slot → RawPart → Clause
+clause_of s (part.All a) = clause.All
+clause_of s (part.Item i) = clause.Items
+clause_of s (part.Table t) = table_clause s
+clause_of s (part.Test t) = test_clause s
+clause_of s (part.Group r) = clause.Groups
+clause_of s (part.Key k) = clause.Keys
+clause_of s (part.Limit n) = clause.Limited
 
 -- FROM may follow
 abbrev pub is_list : Clause → Bool
@@ -131,11 +174,21 @@ is_list clause.All = true
 is_list clause.Items = true
 is_list _ = false
 
+-- JOIN and WHERE may follow
+abbrev pub is_joinable : Clause → Bool
+is_joinable clause.Tables = true
+is_joinable clause.Ons = true
+is_joinable _ = false
+
+-- GROUP BY may follow
+abbrev pub is_ungrouped : Clause → Bool
+is_ungrouped clause.Tests = true
+is_ungrouped k = is_joinable k
+
 -- ORDER BY may follow
 abbrev pub is_unordered : Clause → Bool
-is_unordered clause.Tables = true
-is_unordered clause.Tests = true
-is_unordered _ = false
+is_unordered clause.Groups = true
+is_unordered k = is_ungrouped k
 
 -- LIMIT may follow
 abbrev pub is_unlimited : Clause → Bool
@@ -152,8 +205,14 @@ pub data Leads : Clause → List Word → Slot → Type 0 where
   select : (a : ℕ) → Leads clause.Begin (key_at a (codes "SELECT") ∷ []) slot.List
   item_comma : (a : ℕ) → Leads clause.Items (sign_at a symbol.Comma ∷ []) slot.Item
   from : (k : Clause) (a : ℕ) → is_list k ≡ true → Leads k (key_at a (codes "FROM") ∷ []) slot.Table
-  filter : (a : ℕ) → Leads clause.Tables (key_at a (codes "WHERE") ∷ []) slot.Test
+  join : (k : Clause) (a : ℕ) → is_joinable k ≡ true → Leads k (key_at a (codes "JOIN") ∷ []) slot.Joined
+  on : (a : ℕ) → Leads clause.Joined (key_at a (codes "ON") ∷ []) slot.On
+  and_on : (a : ℕ) → Leads clause.Ons (key_at a (codes "AND") ∷ []) slot.On
+  filter : (k : Clause) (a : ℕ) → is_joinable k ≡ true → Leads k (key_at a (codes "WHERE") ∷ []) slot.Test
   and : (a : ℕ) → Leads clause.Tests (key_at a (codes "AND") ∷ []) slot.Test
+  group_by : (k : Clause) (a b : ℕ) → is_ungrouped k ≡ true
+      → Leads k (key_at a (codes "GROUP") ∷ key_at b (codes "BY") ∷ []) slot.Group
+  group_comma : (a : ℕ) → Leads clause.Groups (sign_at a symbol.Comma ∷ []) slot.Group
   order_by : (k : Clause) (a b : ℕ) → is_unordered k ≡ true
       → Leads k (key_at a (codes "ORDER") ∷ key_at b (codes "BY") ∷ []) slot.Key
   key_comma : (a : ℕ) → Leads clause.Keys (sign_at a symbol.Comma ∷ []) slot.Key
@@ -164,7 +223,7 @@ pub data IsSelect (catalog : List CatalogTable) : Clause → RawSelect → List 
   nothing : IsSelect catalog clause.Begin empty []
   more : (k : Clause) (raw : RawSelect) (s : Slot) (x : RawPart) (ws lead vs : List Word)
       → IsSelect catalog k raw ws → Leads k lead s → has_room raw s ≡ true → IsPart catalog raw s x vs
-      → IsSelect catalog (clause_of x) (added raw x) ((ws ++ lead) ++ vs)
+      → IsSelect catalog (clause_of s x) (added raw x) ((ws ++ lead) ++ vs)
 
 -- the words are the SELECT
 pub data Spells (catalog : List CatalogTable) : List Word → RawSelect → Type 0 where

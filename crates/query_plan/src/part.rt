@@ -3,11 +3,12 @@
 ghost use Rattle.std.specs.Prelude.{◌≡◌, IfOk, option_map};
 ghost use Rattle.rm_words.specs.Names.{name_of};
 ghost use Rattle.rm_words.specs.Token.{seen};
-ghost use Rattle.query_plan.specs.Grammar.{bare_column, clause_of, int_of, is_whole, negative_of, op_of, qualified_column};
-ghost use Rattle.query_plan.specs.Machine.{alias_turn, begun, call_turn, column_read, column_turn, dotted_turn, goes, int_read, is_dot, item_begun, item_of, key_begun, key_turn, left_turn, limit_begun, list_begun, minus_turn, named_turn, op_in, operand_begun, operand_read, part_of, table_turn, turn, unqualified_part, unqualified_turn};
+ghost use Rattle.query_plan.specs.Grammar.{bare_column, clause_of, function_word, int_of, is_whole, negative_of, op_of, qualified_column, table_clause, test_clause};
+ghost use Rattle.query_plan.specs.Machine.{alias_turn, begun, call_turn, column_read, dotted_turn, function_in, function_turn, goes, int_read, is_close, is_count, is_dot, is_open, is_star, item_begun, item_of, key_begun, key_turn, left_turn, limit_begun, list_begun, minus_turn, named_turn, op_in, opened_turn, operand_begun, operand_read, part_of, table_turn, turn, unclosed_turn, unqualified_part, unqualified_turn, value_turn};
 
 use crate::raw::{
-    KeyBy, RawItem, RawKey, RawOperand, RawPart, RawSelect, RawTable, RawTest, Reference, Slot,
+    Function, KeyBy, RawItem, RawKey, RawOperand, RawPart, RawSelect, RawTable, RawTest, RawValue,
+    Reference, Slot,
 };
 use crate::scope::is_listed;
 use rm_base::catalog::Catalog;
@@ -25,8 +26,15 @@ pub enum Clause {
     /// `*`
     All,
     Items,
+    /// The first table.
     Tables,
+    /// A table behind JOIN.
+    Joined,
+    /// A comparison of ON.
+    Ons,
+    /// A comparison of WHERE.
     Tests,
+    Groups,
     Keys,
     Limited,
 }
@@ -44,23 +52,33 @@ pub enum Side {
 pub enum Purpose {
     /// An item whose first word starts at a place.
     Item(u64),
+    /// What a function takes, in such an item.
+    Argument(u64, Function),
     Operand(Side),
+    Group,
 }
 
 /// A part so far.
 #[derive(Debug, Drop)]
 pub enum Partial {
-    Due(Slot),
+    /// Nothing of it is read yet.
+    Due,
     /// `*`
     All(u64),
     /// A column, or what its table is called by.
     Named(Purpose, Name),
     /// .. and `.`
     Dotted(Purpose, Name),
-    /// A column, for an item that begins at a place.
-    Column(u64, Reference),
+    /// A function's key word, for an item that begins at a place.
+    Function(u64, Function),
+    /// .. and `(`
+    Opened(u64, Function),
+    /// What an item gives, before its `)`.
+    Unclosed(u64, RawValue),
+    /// What an item gives.
+    Value(u64, RawValue),
     /// .. and AS
-    ColumnAs(u64, Reference),
+    ValueAs(u64, RawValue),
     Item(RawItem),
     TableNamed(Name),
     /// .. and AS
@@ -73,6 +91,7 @@ pub enum Partial {
     /// .. and its operator, which stands at a place
     Compared(RawOperand, Op, u64),
     Test(RawTest),
+    Group(Reference),
     KeyBy(KeyBy),
     Key(RawKey),
     Limit(u32),
@@ -148,15 +167,38 @@ fn qualified_column(qualifier: Name, name: Name) -> Reference
     }
 }
 
-/// An item that its column names.
-fn item_of(place: u64, column: Reference) -> RawItem
-    ensures { result ≡ item_of place column }
+/// An item without AS.
+fn item_of(place: u64, value: RawValue) -> RawItem
+    ensures { result ≡ item_of place value }
 {
     RawItem {
         place,
-        column,
+        value,
         name: None,
     }
+}
+
+/// The function whose key word this is.
+fn function_in(token: &Token) -> Option<Function>
+    ensures { result ≡ function_in (seen token.now) }
+{
+    if token.is_key(b"COUNT") {
+        Some(Function::Count)
+    } else if token.is_key(b"SUM") {
+        Some(Function::Sum)
+    } else if token.is_key(b"MIN") {
+        Some(Function::Min)
+    } else if token.is_key(b"MAX") {
+        Some(Function::Max)
+    } else {
+        None
+    }
+}
+
+fn is_count(function: Function) -> bool
+    ensures { result ≡ is_count function }
+{
+    matches!(function, Function::Count)
 }
 
 impl Side {
@@ -217,7 +259,11 @@ impl Purpose {
         ensures { result ≡ column_read self column }
     {
         match self {
-            Purpose::Item(place) => Partial::Column(place, column),
+            Purpose::Item(place) => Partial::Value(place, RawValue::Column(column)),
+            Purpose::Argument(place, function) => {
+                Partial::Unclosed(place, RawValue::Of(function, column))
+            }
+            Purpose::Group => Partial::Group(column),
             Purpose::Operand(side) => side.read(RawOperand::Column(column)),
         }
     }
@@ -227,7 +273,11 @@ impl Purpose {
         ensures { result ≡ unqualified_turn self name (record { place = place; says = seen token.now }) }
     {
         match self {
-            Purpose::Item(start) => column_turn(start, bare_column(name), token),
+            Purpose::Item(start) => value_turn(start, RawValue::Column(bare_column(name)), token),
+            Purpose::Argument(start, function) => {
+                unclosed_turn(start, RawValue::Of(function, bare_column(name)), token)
+            }
+            Purpose::Group => Turn::Ends(RawPart::Group(bare_column(name))),
             Purpose::Operand(Side::Left) => left_turn(
                 RawOperand::Column(bare_column(name)),
                 place,
@@ -247,8 +297,12 @@ impl Purpose {
         ensures { result ≡ unqualified_part self name }
     {
         match self {
-            Purpose::Item(start) => Some(RawPart::Item(item_of(start, bare_column(name)))),
-            Purpose::Operand(Side::Left) => None,
+            Purpose::Item(start) => Some(RawPart::Item(item_of(
+                start,
+                RawValue::Column(bare_column(name)),
+            ))),
+            Purpose::Group => Some(RawPart::Group(bare_column(name))),
+            Purpose::Argument(..) | Purpose::Operand(Side::Left) => None,
             Purpose::Operand(Side::Right(left, op, place)) => Some(RawPart::Test(RawTest {
                 left,
                 op,
@@ -265,14 +319,67 @@ fn is_dot(token: &Token) -> bool
     matches!(token, Token::Sign(Symbol::Dot))
 }
 
-/// A word behind an item's column.
-fn column_turn(place: u64, column: Reference, token: &Token) -> Turn
-    ensures { result ≡ column_turn place column (seen token.now) }
+fn is_open(token: &Token) -> bool
+    ensures { result ≡ is_open (seen token.now) }
+{
+    matches!(token, Token::Sign(Symbol::Open))
+}
+
+fn is_close(token: &Token) -> bool
+    ensures { result ≡ is_close (seen token.now) }
+{
+    matches!(token, Token::Sign(Symbol::Close))
+}
+
+fn is_star(token: &Token) -> bool
+    ensures { result ≡ is_star (seen token.now) }
+{
+    matches!(token, Token::Sign(Symbol::Star))
+}
+
+/// A word behind what an item gives.
+fn value_turn(place: u64, value: RawValue, token: &Token) -> Turn
+    ensures { result ≡ value_turn place value (seen token.now) }
 {
     if token.is_key(b"AS") {
-        Turn::Goes(Partial::ColumnAs(place, column))
+        Turn::Goes(Partial::ValueAs(place, value))
     } else {
-        Turn::Ends(RawPart::Item(item_of(place, column)))
+        Turn::Ends(RawPart::Item(item_of(place, value)))
+    }
+}
+
+/// A word behind a function's key word.
+fn function_turn(place: u64, function: Function, token: &Token) -> Turn
+    ensures { result ≡ function_turn place function (seen token.now) }
+{
+    if is_open(token) {
+        Turn::Goes(Partial::Opened(place, function))
+    } else {
+        Turn::Stops
+    }
+}
+
+/// A word behind that and `(`.
+fn opened_turn(place: u64, function: Function, token: &Token) -> Turn
+    ensures { result ≡ opened_turn place function (seen token.now) }
+{
+    if is_count(function) && is_star(token) {
+        return Turn::Goes(Partial::Unclosed(place, RawValue::CountAll));
+    }
+    match token.name() {
+        Some(name) => Turn::Goes(Partial::Named(Purpose::Argument(place, function), name)),
+        None => Turn::Stops,
+    }
+}
+
+/// A word where `)` is due.
+fn unclosed_turn(place: u64, value: RawValue, token: &Token) -> Turn
+    ensures { result ≡ unclosed_turn place value (seen token.now) }
+{
+    if is_close(token) {
+        Turn::Goes(Partial::Value(place, value))
+    } else {
+        Turn::Stops
     }
 }
 
@@ -334,6 +441,9 @@ fn goes(partial: Option<Partial>) -> Turn
 fn item_begun(place: u64, token: &Token) -> Option<Partial>
     ensures { result ≡ item_begun (record { place = place; says = seen token.now }) }
 {
+    if let Some(function) = function_in(token) {
+        return Some(Partial::Function(place, function));
+    }
     match token.name() {
         Some(name) => Some(Partial::Named(Purpose::Item(place), name)),
         None => None,
@@ -358,6 +468,15 @@ fn key_begun(catalog: &Catalog, raw: &RawSelect, token: &Token) -> Option<Partia
         }
         Token::Bare(_) => token.name().map(|name| Partial::KeyBy(KeyBy::Name(name))),
         Token::Number(_) | Token::Quoted(_) | Token::Sign(_) => None,
+    }
+}
+
+fn group_begun(token: &Token) -> Option<Partial>
+    ensures { result ≡ option_map (λ n. Partial.Named Purpose.Group n) (name_of (seen token.now)) }
+{
+    match token.name() {
+        Some(name) => Some(Partial::Named(Purpose::Group, name)),
+        None => None,
     }
 }
 
@@ -389,8 +508,9 @@ fn begun(
     match slot {
         Slot::List => Ok(list_begun(place, token)),
         Slot::Item => Ok(item_begun(place, token)),
-        Slot::Table => Ok(token.name().map(Partial::TableNamed)),
-        Slot::Test => Side::Left.begun(alloc, token),
+        Slot::Table | Slot::Joined => Ok(token.name().map(Partial::TableNamed)),
+        Slot::On | Slot::Test => Side::Left.begun(alloc, token),
+        Slot::Group => Ok(group_begun(token)),
         Slot::Key => Ok(key_begun(catalog, raw, token)),
         Slot::Limit => Ok(limit_begun(token)),
     }
@@ -417,14 +537,14 @@ fn dotted_turn(purpose: Purpose, qualifier: Name, token: &Token) -> Turn
     }
 }
 
-/// A word behind AS and an item's column.
-fn alias_turn(place: u64, column: Reference, token: &Token) -> Turn
-    ensures { result ≡ alias_turn place column (name_of (seen token.now)) }
+/// A word behind AS and what an item gives.
+fn alias_turn(place: u64, value: RawValue, token: &Token) -> Turn
+    ensures { result ≡ alias_turn place value (name_of (seen token.now)) }
 {
     match token.name() {
         Some(name) => Turn::Goes(Partial::Item(RawItem {
             place,
-            column,
+            value,
             name: Some(name),
         })),
         None => Turn::Stops,
@@ -448,18 +568,22 @@ impl Partial {
         alloc: Global,
         catalog: &Catalog,
         raw: &RawSelect,
+        slot: Slot,
         place: u64,
         token: &Token,
     ) -> Result<Turn, AllocError>
-        ensures { IfOk result (λ next. next ≡ turn catalog.now raw.now self (record { place = place; says = seen token.now })) }
+        ensures { IfOk result (λ next. next ≡ turn catalog.now raw.now slot self (record { place = place; says = seen token.now })) }
     {
         match self {
-            Partial::Due(slot) => Ok(goes(begun(alloc, catalog, raw, slot, place, token)?)),
+            Partial::Due => Ok(goes(begun(alloc, catalog, raw, slot, place, token)?)),
             Partial::All(start) => Ok(Turn::Ends(RawPart::All(start))),
             Partial::Named(purpose, name) => Ok(named_turn(purpose, name, place, token)),
             Partial::Dotted(purpose, qualifier) => Ok(dotted_turn(purpose, qualifier, token)),
-            Partial::Column(start, column) => Ok(column_turn(start, column, token)),
-            Partial::ColumnAs(start, column) => Ok(alias_turn(start, column, token)),
+            Partial::Function(start, function) => Ok(function_turn(start, function, token)),
+            Partial::Opened(start, function) => Ok(opened_turn(start, function, token)),
+            Partial::Unclosed(start, value) => Ok(unclosed_turn(start, value, token)),
+            Partial::Value(start, value) => Ok(value_turn(start, value, token)),
+            Partial::ValueAs(start, value) => Ok(alias_turn(start, value, token)),
             Partial::Item(item) => Ok(Turn::Ends(RawPart::Item(item))),
             Partial::TableNamed(name) => Ok(table_turn(name, token)),
             Partial::TableAs(name) => Ok(call_turn(name, token)),
@@ -470,6 +594,7 @@ impl Partial {
                 Ok(goes(Side::Right(left, op, at).begun(alloc, token)?))
             }
             Partial::Test(test) => Ok(Turn::Ends(RawPart::Test(test))),
+            Partial::Group(column) => Ok(Turn::Ends(RawPart::Group(column))),
             Partial::KeyBy(by) => Ok(key_turn(by, token)),
             Partial::Key(key) => Ok(Turn::Ends(RawPart::Key(key))),
             Partial::Limit(rows) => Ok(Turn::Ends(RawPart::Limit(rows))),
@@ -483,17 +608,21 @@ impl Partial {
         match self {
             Partial::All(start) => Some(RawPart::All(start)),
             Partial::Named(purpose, name) => purpose.unqualified_part(name),
-            Partial::Column(start, column) => Some(RawPart::Item(item_of(start, column))),
+            Partial::Value(start, value) => Some(RawPart::Item(item_of(start, value))),
             Partial::Item(item) => Some(RawPart::Item(item)),
             Partial::TableNamed(name) => Some(RawPart::Table(RawTable { name, call: name })),
             Partial::Table(table) => Some(RawPart::Table(table)),
             Partial::Test(test) => Some(RawPart::Test(test)),
+            Partial::Group(column) => Some(RawPart::Group(column)),
             Partial::KeyBy(by) => Some(RawPart::Key(RawKey { by, falling: false })),
             Partial::Key(key) => Some(RawPart::Key(key)),
             Partial::Limit(rows) => Some(RawPart::Limit(rows)),
-            Partial::Due(_)
+            Partial::Due
             | Partial::Dotted(..)
-            | Partial::ColumnAs(..)
+            | Partial::Function(..)
+            | Partial::Opened(..)
+            | Partial::Unclosed(..)
+            | Partial::ValueAs(..)
             | Partial::TableAs(_)
             | Partial::Minus(_)
             | Partial::Left(_)
@@ -502,16 +631,49 @@ impl Partial {
     }
 }
 
+fn table_clause(slot: Slot) -> Clause
+    ensures { result ≡ table_clause slot }
+{
+    match slot {
+        Slot::Joined => Clause::Joined,
+        Slot::List
+        | Slot::Item
+        | Slot::Table
+        | Slot::On
+        | Slot::Test
+        | Slot::Group
+        | Slot::Key
+        | Slot::Limit => Clause::Tables,
+    }
+}
+
+fn test_clause(slot: Slot) -> Clause
+    ensures { result ≡ test_clause slot }
+{
+    match slot {
+        Slot::On => Clause::Ons,
+        Slot::List
+        | Slot::Item
+        | Slot::Table
+        | Slot::Joined
+        | Slot::Test
+        | Slot::Group
+        | Slot::Key
+        | Slot::Limit => Clause::Tests,
+    }
+}
+
 impl RawPart {
-    /// The clause that the part belongs to.
-    pub fn clause(&self) -> Clause
-        ensures { result ≡ clause_of self.now }
+    /// The clause that the part belongs to, by what was due.
+    pub fn clause(&self, slot: Slot) -> Clause
+        ensures { result ≡ clause_of slot self.now }
     {
         match self {
             RawPart::All(_) => Clause::All,
             RawPart::Item(_) => Clause::Items,
-            RawPart::Table(_) => Clause::Tables,
-            RawPart::Test(_) => Clause::Tests,
+            RawPart::Table(_) => table_clause(slot),
+            RawPart::Test(_) => test_clause(slot),
+            RawPart::Group(_) => Clause::Groups,
             RawPart::Key(_) => Clause::Keys,
             RawPart::Limit(_) => Clause::Limited,
         }
@@ -524,8 +686,13 @@ impl Clause {
         ensures { result ≡ is_whole self }
     {
         match self {
-            Clause::Begin | Clause::All | Clause::Items => false,
-            Clause::Tables | Clause::Tests | Clause::Keys | Clause::Limited => true,
+            Clause::Begin | Clause::All | Clause::Items | Clause::Joined => false,
+            Clause::Tables
+            | Clause::Ons
+            | Clause::Tests
+            | Clause::Groups
+            | Clause::Keys
+            | Clause::Limited => true,
         }
     }
 }

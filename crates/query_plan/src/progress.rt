@@ -1,6 +1,6 @@
 ghost use Rattle.std.specs.Prelude.{◌≡◌, [], ◌∷◌, IfOk, Some};
 ghost use Rattle.rm_words.specs.Token.{seen};
-ghost use Rattle.query_plan.specs.Machine.{Key, closed, finish, is_comma, is_semicolon, last_edges, led, on_edge, step, turned, unlimited_edges, unordered_edges};
+ghost use Rattle.query_plan.specs.Machine.{Key, closed, due, finish, is_comma, is_semicolon, joinable_edges, last_edges, led, on_edge, step, turned, ungrouped_edges, unlimited_edges, unordered_edges};
 
 use crate::part::{Clause, Partial, Turn};
 use crate::raw::{RawPart, RawSelect, Slot};
@@ -12,10 +12,10 @@ use std::alloc::{AllocError, Global};
 #[derive(Debug, Drop)]
 pub enum Progress {
     Start,
-    /// The parts so far, and the one that is read.
-    In(RawSelect, Partial),
-    /// .. ORDER
-    Ordering(RawSelect),
+    /// The parts so far, what is due behind them, and what of it is read.
+    In(RawSelect, Slot, Partial),
+    /// The parts so far, GROUP or ORDER, and what is due behind BY.
+    By(RawSelect, Slot),
     /// A SELECT and `;`.
     Ended(RawSelect),
 }
@@ -34,9 +34,9 @@ fn is_semicolon(token: &Token) -> bool
 
 /// A part is due next.
 fn due(raw: RawSelect, slot: Slot) -> Option<Progress>
-    ensures { result ≡ Some (Progress.In raw (Partial.Due slot)) }
+    ensures { result ≡ Some (due raw slot) }
 {
-    Some(Progress::In(raw, Partial::Due(slot)))
+    Some(Progress::In(raw, slot, Partial::Due))
 }
 
 /// A word where a SELECT may end.
@@ -66,15 +66,39 @@ fn at_order(raw: RawSelect, token: &Token) -> Option<Progress>
     ensures { result ≡ on_edge (unordered_edges raw) (seen token.now) }
 {
     if token.is_key(b"ORDER") {
-        Some(Progress::Ordering(raw))
+        Some(Progress::By(raw, Slot::Key))
     } else {
         at_limit(raw, token)
     }
 }
 
+/// A word where GROUP BY may stand.
+fn at_group(raw: RawSelect, token: &Token) -> Option<Progress>
+    ensures { result ≡ on_edge (ungrouped_edges raw) (seen token.now) }
+{
+    if token.is_key(b"GROUP") {
+        Some(Progress::By(raw, Slot::Group))
+    } else {
+        at_order(raw, token)
+    }
+}
+
+/// A word where JOIN and WHERE may stand.
+fn at_join(raw: RawSelect, token: &Token) -> Option<Progress>
+    ensures { result ≡ on_edge (joinable_edges raw) (seen token.now) }
+{
+    if token.is_key(b"JOIN") {
+        due(raw, Slot::Joined)
+    } else if token.is_key(b"WHERE") {
+        due(raw, Slot::Test)
+    } else {
+        at_group(raw, token)
+    }
+}
+
 /// The one key word that may come next, and what is due behind it.
 fn at_key(raw: RawSelect, token: &Token, key: &[u8], slot: Slot) -> Option<Progress>
-    ensures { result ≡ on_edge ((Key key.now, Progress.In raw (Partial.Due slot)) ∷ []) (seen token.now) }
+    ensures { result ≡ on_edge ((Key key.now, due raw slot) ∷ []) (seen token.now) }
 {
     if token.is_key(key) {
         due(raw, slot)
@@ -92,9 +116,14 @@ fn led(raw: RawSelect, clause: Clause, token: &Token) -> Option<Progress>
         Clause::All => at_key(raw, token, b"FROM", Slot::Table),
         Clause::Items if is_comma(token) => due(raw, Slot::Item),
         Clause::Items => at_key(raw, token, b"FROM", Slot::Table),
-        Clause::Tables if token.is_key(b"WHERE") => due(raw, Slot::Test),
+        Clause::Tables => at_join(raw, token),
+        Clause::Joined => at_key(raw, token, b"ON", Slot::On),
+        Clause::Ons if token.is_key(b"AND") => due(raw, Slot::On),
+        Clause::Ons => at_join(raw, token),
         Clause::Tests if token.is_key(b"AND") => due(raw, Slot::Test),
-        Clause::Tables | Clause::Tests => at_order(raw, token),
+        Clause::Tests => at_group(raw, token),
+        Clause::Groups if is_comma(token) => due(raw, Slot::Group),
+        Clause::Groups => at_order(raw, token),
         Clause::Keys if is_comma(token) => due(raw, Slot::Key),
         Clause::Keys => at_limit(raw, token),
         Clause::Limited => at_end(raw, token),
@@ -114,11 +143,11 @@ impl Progress {
     {
         match self {
             Progress::Start => Ok(led(RawSelect::empty(alloc), Clause::Begin, token)),
-            Progress::In(raw, partial) => {
-                let turn = partial.turn(alloc, catalog, &raw, place, token)?;
-                turned(raw, token, turn)
+            Progress::In(raw, slot, partial) => {
+                let turn = partial.turn(alloc, catalog, &raw, slot, place, token)?;
+                turned(raw, slot, token, turn)
             }
-            Progress::Ordering(raw) => Ok(at_key(raw, token, b"BY", Slot::Key)),
+            Progress::By(raw, slot) => Ok(at_key(raw, token, b"BY", slot)),
             Progress::Ended(_) => Ok(None),
         }
     }
@@ -128,21 +157,26 @@ impl Progress {
         ensures { IfOk result (λ raw. raw ≡ finish self) }
     {
         match self {
-            Progress::In(raw, partial) => closed(raw, partial.part()),
+            Progress::In(raw, slot, partial) => closed(raw, slot, partial.part()),
             Progress::Ended(raw) => Ok(Some(raw)),
-            Progress::Start | Progress::Ordering(_) => Ok(None),
+            Progress::Start | Progress::By(..) => Ok(None),
         }
     }
 }
 
 /// Where the turn of a part leads.
-fn turned(raw: RawSelect, token: &Token, turn: Turn) -> Result<Option<Progress>, AllocError>
-    ensures { IfOk result (λ next. next ≡ turned raw (seen token.now) turn) }
+fn turned(
+    raw: RawSelect,
+    slot: Slot,
+    token: &Token,
+    turn: Turn,
+) -> Result<Option<Progress>, AllocError>
+    ensures { IfOk result (λ next. next ≡ turned raw slot (seen token.now) turn) }
 {
     match turn {
-        Turn::Goes(partial) => Ok(Some(Progress::In(raw, partial))),
+        Turn::Goes(partial) => Ok(Some(Progress::In(raw, slot, partial))),
         Turn::Ends(part) => {
-            let clause = part.clause();
+            let clause = part.clause(slot);
             Ok(led(raw.with(part)?, clause, token))
         }
         Turn::Stops => Ok(None),
@@ -150,11 +184,15 @@ fn turned(raw: RawSelect, token: &Token, turn: Turn) -> Result<Option<Progress>,
 }
 
 /// The SELECT that a last part makes, if it may be the last.
-fn closed(raw: RawSelect, part: Option<RawPart>) -> Result<Option<RawSelect>, AllocError>
-    ensures { IfOk result (λ whole. whole ≡ closed raw part) }
+fn closed(
+    raw: RawSelect,
+    slot: Slot,
+    part: Option<RawPart>,
+) -> Result<Option<RawSelect>, AllocError>
+    ensures { IfOk result (λ whole. whole ≡ closed raw slot part) }
 {
     match part {
-        Some(part) if part.clause().is_whole() => Ok(Some(raw.with(part)?)),
+        Some(part) if part.clause(slot).is_whole() => Ok(Some(raw.with(part)?)),
         Some(_) | None => Ok(None),
     }
 }

@@ -2,7 +2,7 @@
 
 ghost use Rattle.std.specs.Prelude.{◌≡◌, IfOk};
 
-use rm_base::limits::{ITEMS_MOST, ORDER_KEYS_MOST, TESTS_MOST};
+use rm_base::limits::{GROUP_COLUMNS_MOST, ITEMS_MOST, ORDER_KEYS_MOST, TESTS_MOST};
 use rm_base::listed::Listed;
 use rm_base::name::Name;
 use rm_base::select::Op;
@@ -17,12 +17,30 @@ pub struct Reference {
     pub column: Name,
 }
 
+/// What is taken of a column's values in a group.
+#[derive(Clone, Copy, Debug)]
+pub enum Function {
+    Count,
+    Sum,
+    Min,
+    Max,
+}
+
+/// What an item gives.
+#[derive(Clone, Copy, Debug)]
+pub enum RawValue {
+    Column(Reference),
+    /// `COUNT(*)`
+    CountAll,
+    Of(Function, Reference),
+}
+
 /// An item of the select list.
 #[derive(Clone, Copy, Debug)]
 pub struct RawItem {
     /// Where its first word starts.
     pub place: u64,
-    pub column: Reference,
+    pub value: RawValue,
     /// Its name behind AS.
     pub name: Option<Name>,
 }
@@ -52,6 +70,13 @@ pub struct RawTest {
     pub right: RawOperand,
 }
 
+/// A comparison of ON or WHERE, and how many tables stand before it.
+#[derive(Debug, Drop)]
+pub struct RawCondition {
+    pub test: RawTest,
+    pub tables: usize,
+}
+
 /// What an answer is ordered by: an output column's name, or its number from 1 on.
 #[derive(Clone, Copy, Debug)]
 pub enum KeyBy {
@@ -74,6 +99,8 @@ pub enum RawPart {
     Item(RawItem),
     Table(RawTable),
     Test(RawTest),
+    /// A column of GROUP BY.
+    Group(Reference),
     Key(RawKey),
     Limit(u32),
 }
@@ -84,8 +111,15 @@ pub enum Slot {
     /// `*`, or the first item of the select list.
     List,
     Item,
+    /// The first table.
     Table,
+    /// A table behind JOIN.
+    Joined,
+    /// A comparison of ON.
+    On,
+    /// A comparison of WHERE.
     Test,
+    Group,
     Key,
     Limit,
 }
@@ -97,7 +131,9 @@ pub struct RawSelect {
     pub all: Option<u64>,
     pub items: Listed<RawItem>,
     pub tables: Listed<RawTable>,
-    pub tests: Listed<RawTest>,
+    /// The comparisons of ON and WHERE.
+    pub tests: Listed<RawCondition>,
+    pub groups: Listed<Reference>,
     pub keys: Listed<RawKey>,
     pub limit: Option<u32>,
 }
@@ -114,6 +150,7 @@ impl RawSelect {
             items: Listed::new(alloc),
             tables: Listed::new(alloc),
             tests: Listed::new(alloc),
+            groups: Listed::new(alloc),
             keys: Listed::new(alloc),
             limit: None,
         }
@@ -128,7 +165,11 @@ impl RawSelect {
             RawPart::All(place) => raw.all = Some(place),
             RawPart::Item(item) => raw.items.push(item)?,
             RawPart::Table(table) => raw.tables.push(table)?,
-            RawPart::Test(test) => raw.tests.push(test)?,
+            RawPart::Test(test) => {
+                let tables = raw.tables.as_slice().len();
+                raw.tests.push(RawCondition { test, tables })?;
+            }
+            RawPart::Group(column) => raw.groups.push(column)?,
             RawPart::Key(key) => raw.keys.push(key)?,
             RawPart::Limit(rows) => raw.limit = Some(rows),
         }
@@ -141,9 +182,10 @@ impl RawSelect {
     {
         match slot {
             Slot::Item => self.items.as_slice().len() < ITEMS_MOST,
-            Slot::Test => self.tests.as_slice().len() < TESTS_MOST,
+            Slot::On | Slot::Test => self.tests.as_slice().len() < TESTS_MOST,
+            Slot::Group => self.groups.as_slice().len() < GROUP_COLUMNS_MOST,
             Slot::Key => self.keys.as_slice().len() < ORDER_KEYS_MOST,
-            Slot::List | Slot::Table | Slot::Limit => true,
+            Slot::List | Slot::Table | Slot::Joined | Slot::Limit => true,
         }
     }
 }

@@ -1,18 +1,21 @@
 //! What the names of a SELECT stand for.
 
-ghost use Rattle.std.specs.Prelude.{◌≡◌, ◌≤◌, ◌++◌, ◌<◌, true, length, map, count_by, IfOk, IfSome, OnOk};
+ghost use Rattle.std.specs.Prelude.{◌≡◌, ◌≤◌, ◌++◌, ◌<◌, true, length, map, take, count_by, IfOk, IfSome, OnOk};
 ghost use Rattle.std.specs.List.{list_all, list_any, position_from};
 ghost use Rattle.std.specs.Str.{bytes_eq};
 ghost use Rattle.rm_base.specs.Name.{name_text};
 ghost use Rattle.query_plan.specs.Scope.{columns_here, scope_from};
-ghost use Rattle.query_plan.specs.Resolving.{IsAnswer, IsRaw, all_from, column_name, column_of, compared_at, counts_among, counts_output, each, found_from, is_ambiguous, is_call, is_called, is_elsewhere, is_meant, item_name, item_of, items_of, key_of, looked_up, names_of, operand_of, output_name, output_of, planned, resolved, same_kind, test_of, unknown_name};
+ghost use Rattle.query_plan.specs.Resolving.{IsAnswer, IsRaw, all_from, called_twice, column_name, column_of, compared_at, condition_of, counts_among, counts_output, each, found_from, function_item, function_name, group_of, groups_of, is_aggregate, is_ambiguous, is_call, is_called, is_elsewhere, is_found_at, is_group, is_grouped, is_int, is_meant, item_name, item_of, items_of, key_of, looked_up, may_stand, operand_of, output_names, output_of, plain_item, planned, resolved, same_kind, test_of, unknown_name, value_of};
 
 use crate::plan::Plan;
-use crate::raw::{KeyBy, RawItem, RawKey, RawOperand, RawSelect, RawTable, RawTest, Reference};
+use crate::raw::{
+    Function, KeyBy, RawCondition, RawItem, RawKey, RawOperand, RawSelect, RawTable, RawTest,
+    RawValue, Reference,
+};
 use crate::reading::ReadError;
 use crate::scope::{Found, Here, table_named};
 use rm_base::catalog::{Catalog, CatalogColumn, ColumnKind};
-use rm_base::limits::{ITEMS_MOST, ROW_VALUES_MOST};
+use rm_base::limits::{ITEMS_MOST, ROW_VALUES_MOST, SELECT_TABLES_MOST};
 use rm_base::listed::Listed;
 use rm_base::name::Name;
 use rm_base::refusal::Refusal;
@@ -37,20 +40,22 @@ fn is_called(qualifier: Option<Name>, call: Name) -> bool
     }
 }
 
-/// Whether the reference may mean the column.
-fn is_meant(reference: Reference, here: &Here) -> bool
-    ensures { result ≡ is_meant reference here.now }
+/// Whether the reference may mean the column, where so many tables are there.
+fn is_meant(tables: usize, reference: Reference, here: &Here) -> bool
+    ensures { result ≡ is_meant tables reference here.now }
 {
-    here.column.name.same(reference.column) && is_called(reference.qualifier, here.call)
+    here.table < tables
+        && here.column.name.same(reference.column)
+        && is_called(reference.qualifier, here.call)
 }
 
 /// The first column that the reference may mean.
-fn found(reference: Reference, scope: &[Here]) -> Option<Found>
+fn found(tables: usize, reference: Reference, scope: &[Here]) -> Option<Found>
     requires { length scope.now ≤ ROW_VALUES_MOST }
-    ensures { result ≡ found_from 0 reference scope.now }
+    ensures { result ≡ found_from tables 0 reference scope.now }
 {
     for (i, here) in scope.iter().enumerate() {
-        if is_meant(reference, here) {
+        if is_meant(tables, reference, here) {
             return Some(Found {
                 column: i as u32,
                 table: here.table,
@@ -62,25 +67,25 @@ fn found(reference: Reference, scope: &[Here]) -> Option<Found>
 }
 
 /// Whether the reference may mean a column of another table too.
-fn is_elsewhere(reference: Reference, found: Found, here: &Here) -> bool
-    ensures { result ≡ is_elsewhere reference found here.now }
+fn is_elsewhere(tables: usize, reference: Reference, found: Found, here: &Here) -> bool
+    ensures { result ≡ is_elsewhere tables reference found here.now }
 {
-    is_meant(reference, here) && here.table != found.table
+    is_meant(tables, reference, here) && here.table != found.table
 }
 
 /// Whether the reference may mean columns of two tables.
-fn is_twofold(reference: Reference, found: Found, scope: &[Here]) -> bool
-    ensures { result ≡ list_any (is_elsewhere reference found) scope.now }
+fn is_twofold(tables: usize, reference: Reference, found: Found, scope: &[Here]) -> bool
+    ensures { result ≡ list_any (is_elsewhere tables reference found) scope.now }
 {
     scope
         .iter()
-        .any(|here| is_elsewhere(reference, found, here))
+        .any(|here| is_elsewhere(tables, reference, found, here))
 }
 
-fn is_ambiguous(reference: Reference, found: Found, scope: &[Here]) -> bool
-    ensures { result ≡ is_ambiguous reference found scope.now }
+fn is_ambiguous(tables: usize, reference: Reference, found: Found, scope: &[Here]) -> bool
+    ensures { result ≡ is_ambiguous tables reference found scope.now }
 {
-    reference.qualifier.is_none() && is_twofold(reference, found, scope)
+    reference.qualifier.is_none() && is_twofold(tables, reference, found, scope)
 }
 
 /// Whether a table is called so.
@@ -106,18 +111,18 @@ fn unknown_name(tables: &[RawTable], qualifier: Option<Name>, column: Name) -> N
     }
 }
 
-/// The column that a reference names.
+/// The column that a reference names, where these tables are there.
 fn column_of(tables: &[RawTable], scope: &[Here], reference: Reference) -> Result<Found, Refusal>
     requires { length scope.now ≤ ROW_VALUES_MOST }
     ensures { result ≡ column_of tables.now scope.now reference }
 {
-    match found(reference, scope) {
+    match found(tables.len(), reference, scope) {
         None => Err(Refusal::NoSuchColumn(unknown_name(
             tables,
             reference.qualifier,
             reference.column,
         ))),
-        Some(found) if is_ambiguous(reference, found, scope) => {
+        Some(found) if is_ambiguous(tables.len(), reference, found, scope) => {
             Err(Refusal::Ambiguous(reference.column))
         }
         Some(found) => Ok(found),
@@ -203,18 +208,53 @@ fn test_of(
     }
 }
 
+/// The first call name that a table before it has.
+fn called_twice(tables: &[RawTable]) -> Option<Name>
+    ensures { result ≡ called_twice tables.now 0 tables.now }
+{
+    for (i, table) in tables.iter().enumerate() {
+        if is_call(&tables[..i], table.call) {
+            return Some(table.call);
+        }
+    }
+    None
+}
+
+fn first_tables(tables: &[RawTable], count: usize) -> &[RawTable]
+    ensures { result.now ≡ take count tables.now }
+{
+    &tables[..count.min(tables.len())]
+}
+
+/// A comparison behind tables: those alone are there.
+fn condition_of(
+    alloc: Global,
+    tables: &[RawTable],
+    scope: &[Here],
+    condition: &RawCondition,
+) -> Result<Test, ReadError>
+    requires { length scope.now ≤ ROW_VALUES_MOST }
+    ensures { IsAnswer (condition_of tables.now scope.now condition.now) result }
+{
+    let there = first_tables(tables, condition.tables);
+    match called_twice(there) {
+        None => test_of(alloc, there, scope, &condition.test),
+        Some(name) => Err(ReadError::Refused(Refusal::Ambiguous(name))),
+    }
+}
+
 fn tests_of(
     alloc: Global,
     tables: &[RawTable],
     scope: &[Here],
-    tests: &[RawTest],
+    conditions: &[RawCondition],
 ) -> Result<Listed<Test>, ReadError>
     requires { length scope.now ≤ ROW_VALUES_MOST }
-    ensures { IsAnswer (each (test_of tables.now scope.now) tests.now) result }
+    ensures { IsAnswer (each (condition_of tables.now scope.now) conditions.now) result }
 {
     let mut out = Listed::new(alloc);
-    for test in tests {
-        match test_of(alloc, tables, scope, test) {
+    for condition in conditions {
+        match condition_of(alloc, tables, scope, condition) {
             Ok(test) => out.push(test)?,
             Err(error) => return Err(error),
         }
@@ -222,29 +262,117 @@ fn tests_of(
     Ok(out)
 }
 
-/// An item of the select list.
-fn item_of(tables: &[RawTable], scope: &[Here], item: &RawItem) -> Result<Item, Refusal>
-    requires { length scope.now ≤ ROW_VALUES_MOST }
-    ensures { result ≡ item_of tables.now scope.now item.now }
+fn is_aggregate(value: RawValue) -> bool
+    ensures { result ≡ is_aggregate value }
 {
-    match column_of(tables, scope, item.column) {
-        Ok(found) => Ok(Item::Column(found.column)),
-        Err(refusal) => Err(refusal),
+    match value {
+        RawValue::Column(_) => false,
+        RawValue::CountAll | RawValue::Of(..) => true,
+    }
+}
+
+/// Whether one of the items is an aggregate.
+fn has_aggregate(items: &[RawItem]) -> bool
+    ensures { result ≡ list_any (λ i. is_aggregate i.value) items.now }
+{
+    items.iter().any(|item| is_aggregate(item.value))
+}
+
+/// Whether there is a GROUP BY or an aggregate.
+fn is_grouped(raw: &RawSelect) -> bool
+    ensures { result ≡ is_grouped raw.now }
+{
+    !raw.groups.as_slice().is_empty() || has_aggregate(raw.items.as_slice())
+}
+
+fn is_found_at(column: u32, found: Result<Found, Refusal>) -> bool
+    ensures { result ≡ is_found_at column found }
+{
+    match found {
+        Ok(found) => found.column == column,
+        Err(_) => false,
+    }
+}
+
+/// Whether GROUP BY has the column.
+fn is_group(raw: &RawSelect, scope: &[Here], column: u32) -> bool
+    requires { length scope.now ≤ ROW_VALUES_MOST }
+    ensures { result ≡ is_group raw.now scope.now column }
+{
+    let tables = raw.tables.as_slice();
+    raw.groups.as_slice().iter().any(|group| is_found_at(column, column_of(tables, scope, *group)))
+}
+
+/// Whether the column may be an item.
+fn may_stand(raw: &RawSelect, scope: &[Here], column: u32) -> bool
+    requires { length scope.now ≤ ROW_VALUES_MOST }
+    ensures { result ≡ may_stand raw.now scope.now column }
+{
+    !is_grouped(raw) || is_group(raw, scope, column)
+}
+
+/// A column as an item that starts at a place.
+fn plain_item(raw: &RawSelect, scope: &[Here], place: u64, found: Found) -> Result<Item, Refusal>
+    requires { length scope.now ≤ ROW_VALUES_MOST }
+    ensures { result ≡ plain_item raw.now scope.now place found }
+{
+    if may_stand(raw, scope, found.column) {
+        Ok(Item::Column(found.column))
+    } else {
+        Err(Refusal::NotGrouped(place))
+    }
+}
+
+fn is_int(kind: ColumnKind) -> bool
+    ensures { result ≡ is_int kind }
+{
+    matches!(kind, ColumnKind::Int)
+}
+
+/// A function of a column as an item that starts at a place.
+fn function_item(place: u64, function: Function, found: Found) -> Result<Item, Refusal>
+    ensures { result ≡ function_item place function found }
+{
+    match function {
+        Function::Count => Ok(Item::Count(found.column)),
+        Function::Sum if is_int(found.kind) => Ok(Item::Sum(found.column)),
+        Function::Sum => Err(Refusal::TypeClash(place)),
+        Function::Min => Ok(Item::Min(found.column)),
+        Function::Max => Ok(Item::Max(found.column)),
+    }
+}
+
+/// An item of the select list.
+fn item_of(raw: &RawSelect, scope: &[Here], item: &RawItem) -> Result<Item, Refusal>
+    requires { length scope.now ≤ ROW_VALUES_MOST }
+    ensures { result ≡ item_of raw.now scope.now item.now }
+{
+    let tables = raw.tables.as_slice();
+    match item.value {
+        RawValue::Column(column) => match column_of(tables, scope, column) {
+            Ok(found) => plain_item(raw, scope, item.place, found),
+            Err(refusal) => Err(refusal),
+        },
+        RawValue::CountAll => Ok(Item::CountAll),
+        RawValue::Of(function, column) => match column_of(tables, scope, column) {
+            Ok(found) => function_item(item.place, function, found),
+            Err(refusal) => Err(refusal),
+        },
     }
 }
 
 fn listed_items(
     alloc: Global,
-    tables: &[RawTable],
+    raw: &RawSelect,
     scope: &[Here],
     items: &[RawItem],
 ) -> Result<Listed<Item>, ReadError>
     requires { length scope.now ≤ ROW_VALUES_MOST }
-    ensures { IsAnswer (each (item_of tables.now scope.now) items.now) result }
+    ensures { IsAnswer (each (item_of raw.now scope.now) items.now) result }
 {
     let mut out = Listed::new(alloc);
     for item in items {
-        match item_of(tables, scope, item) {
+        match item_of(raw, scope, item) {
             Ok(item) => out.push(item)?,
             Err(refusal) => return Err(ReadError::Refused(refusal)),
         }
@@ -267,10 +395,11 @@ fn all_items(alloc: Global, scope: &[Here]) -> Result<Listed<Item>, AllocError>
 /// The output columns.
 fn items_of(alloc: Global, raw: &RawSelect, scope: &[Here]) -> Result<Listed<Item>, ReadError>
     requires { length scope.now ≤ ROW_VALUES_MOST }
-    ensures { IsAnswer (items_of raw.now.tables scope.now raw.now.all raw.now.items) result }
+    ensures { IsAnswer (items_of raw.now scope.now raw.now.all) result }
 {
     match raw.all {
-        None => listed_items(alloc, raw.tables.as_slice(), scope, raw.items.as_slice()),
+        None => listed_items(alloc, raw, scope, raw.items.as_slice()),
+        Some(place) if is_grouped(raw) => Err(ReadError::Refused(Refusal::NotGrouped(place))),
         Some(_) => match all_items(alloc, scope) {
             Ok(items) => Ok(items),
             Err(_) => Err(ReadError::Memory),
@@ -278,11 +407,16 @@ fn items_of(alloc: Global, raw: &RawSelect, scope: &[Here]) -> Result<Listed<Ite
     }
 }
 
-/// An item's name.
-fn output_name(item: &RawItem) -> Name
-    ensures { result ≡ output_name item.now }
+/// What a function's output column is called.
+fn function_name(function: Function) -> &'static str
+    ensures { result.now ≡ function_name function }
 {
-    item.name.unwrap_or(item.column.column)
+    match function {
+        Function::Count => "count",
+        Function::Sum => "sum",
+        Function::Min => "min",
+        Function::Max => "max",
+    }
 }
 
 fn name_text(alloc: Global, name: Name) -> Result<Text, AllocError>
@@ -291,12 +425,30 @@ fn name_text(alloc: Global, name: Name) -> Result<Text, AllocError>
     Ok(Text::of(String::from_str(alloc, name.as_str())?))
 }
 
+fn function_text(alloc: Global, function: Function) -> Result<Text, AllocError>
+    ensures { IfOk result (λ text. text ≡ function_name function) }
+{
+    Ok(Text::of(String::from_str(alloc, function_name(function))?))
+}
+
+/// What an item's output column is called.
+fn item_name(alloc: Global, item: &RawItem) -> Result<Text, AllocError>
+    ensures { IfOk result (λ text. text ≡ item_name item.now) }
+{
+    match (item.name, item.value) {
+        (Some(name), _) => name_text(alloc, name),
+        (None, RawValue::Column(column)) => name_text(alloc, column.column),
+        (None, RawValue::CountAll) => function_text(alloc, Function::Count),
+        (None, RawValue::Of(function, _)) => function_text(alloc, function),
+    }
+}
+
 fn listed_names(alloc: Global, items: &[RawItem]) -> Result<Listed<Text>, AllocError>
     ensures { IfOk result (λ names. names ≡ map item_name items.now) }
 {
     let mut names = Listed::new(alloc);
     for item in items {
-        names.push(name_text(alloc, output_name(item))?)?;
+        names.push(item_name(alloc, item)?)?;
     }
     Ok(names)
 }
@@ -312,8 +464,8 @@ fn all_names(alloc: Global, scope: &[Here]) -> Result<Listed<Text>, AllocError>
 }
 
 /// The names of the output columns.
-fn names_of(alloc: Global, raw: &RawSelect, scope: &[Here]) -> Result<Listed<Text>, AllocError>
-    ensures { IfOk result (λ names. names ≡ names_of scope.now raw.now.all raw.now.items) }
+fn output_names(alloc: Global, raw: &RawSelect, scope: &[Here]) -> Result<Listed<Text>, AllocError>
+    ensures { IfOk result (λ names. names ≡ output_names scope.now raw.now.all raw.now.items) }
 {
     match raw.all {
         None => listed_names(alloc, raw.items.as_slice()),
@@ -396,6 +548,54 @@ fn keys_of(alloc: Global, names: &[Text], keys: &[RawKey]) -> Result<Listed<Orde
     Ok(out)
 }
 
+/// A column of GROUP BY.
+fn group_of(tables: &[RawTable], scope: &[Here], column: Reference) -> Result<u32, Refusal>
+    requires { length scope.now ≤ ROW_VALUES_MOST }
+    ensures { result ≡ group_of tables.now scope.now column }
+{
+    match column_of(tables, scope, column) {
+        Ok(found) => Ok(found.column),
+        Err(refusal) => Err(refusal),
+    }
+}
+
+fn listed_groups(
+    alloc: Global,
+    tables: &[RawTable],
+    scope: &[Here],
+    groups: &[Reference],
+) -> Result<Listed<u32>, ReadError>
+    requires { length scope.now ≤ ROW_VALUES_MOST }
+    ensures { IsAnswer (each (group_of tables.now scope.now) groups.now) result }
+{
+    let mut out = Listed::new(alloc);
+    for column in groups {
+        match group_of(tables, scope, *column) {
+            Ok(column) => out.push(column)?,
+            Err(refusal) => return Err(ReadError::Refused(refusal)),
+        }
+    }
+    Ok(out)
+}
+
+/// The columns of GROUP BY, where there are groups.
+fn groups_of(
+    alloc: Global,
+    raw: &RawSelect,
+    scope: &[Here],
+) -> Result<Option<Listed<u32>>, ReadError>
+    requires { length scope.now ≤ ROW_VALUES_MOST }
+    ensures { IsAnswer (groups_of raw.now scope.now) result }
+{
+    if !is_grouped(raw) {
+        return Ok(None);
+    }
+    match listed_groups(alloc, raw.tables.as_slice(), scope, raw.groups.as_slice()) {
+        Ok(groups) => Ok(Some(groups)),
+        Err(error) => Err(error),
+    }
+}
+
 fn table_names(alloc: Global, tables: &[RawTable]) -> Result<Listed<Name>, AllocError>
     ensures { IfOk result (λ names. names ≡ map (λ t. t.name) tables.now) }
 {
@@ -449,7 +649,7 @@ fn scope_of(
 fn planned(alloc: Global, raw: &RawSelect, scope: &[Here]) -> Result<Select, ReadError>
     requires scope { length scope.now ≤ ROW_VALUES_MOST }
     requires items { length raw.now.items ≤ ITEMS_MOST }
-    requires counts { list_all (counts_among (length (names_of scope.now raw.now.all raw.now.items))) raw.now.keys ≡ true }
+    requires counts { list_all (counts_among (length (output_names scope.now raw.now.all raw.now.items))) raw.now.keys ≡ true }
     ensures { IsAnswer (planned raw.now scope.now) result }
 {
     let tables = raw.tables.as_slice();
@@ -461,7 +661,11 @@ fn planned(alloc: Global, raw: &RawSelect, scope: &[Here]) -> Result<Select, Rea
         Ok(tests) => tests,
         Err(error) => return Err(error),
     };
-    let Ok(names) = names_of(alloc, raw, scope) else {
+    let groups = match groups_of(alloc, raw, scope) {
+        Ok(groups) => groups,
+        Err(error) => return Err(error),
+    };
+    let Ok(names) = output_names(alloc, raw, scope) else {
         return Err(ReadError::Memory);
     };
     let keys = match keys_of(alloc, names.as_slice(), raw.keys.as_slice()) {
@@ -476,7 +680,7 @@ fn planned(alloc: Global, raw: &RawSelect, scope: &[Here]) -> Result<Select, Rea
         tests,
         items,
         names,
-        groups: None,
+        groups,
         order: OrderSpec {
             keys,
             limit: raw.limit,
@@ -490,7 +694,11 @@ pub fn resolved(alloc: Global, catalog: &Catalog, raw: &RawSelect) -> Result<Pla
     ensures { IsAnswer (resolved catalog.now raw.now) result }
 {
     let _tables = catalog.as_slice();
-    let scope = match scope_of(alloc, catalog, raw.tables.as_slice()) {
+    let tables = raw.tables.as_slice();
+    if tables.len() > SELECT_TABLES_MOST {
+        return Err(ReadError::Refused(Refusal::TooManyTables(SELECT_TABLES_MOST as u32)));
+    }
+    let scope = match scope_of(alloc, catalog, tables) {
         Ok(scope) => scope,
         Err(error) => return Err(error),
     };

@@ -1,26 +1,16 @@
 //! Rows as an answer, where there is room for them.
 
-ghost use Rattle.std.specs.Prelude.{◌≡◌, ◌≤◌, ◌-◌, ◌^◌, None, min};
+ghost use Rattle.std.specs.Prelude.{◌≡◌, ◌≤◌, None};
 ghost use Rattle.rm_base.specs.declared.limits.TheConstants.{ANSWER_MOST};
-ghost use Rattle.rm_base.specs.Values.{row_measure};
 ghost use Rattle.rm_rules.specs.Meaning.{answer_of, fitting};
 ghost use Rattle.query_run.specs.Running.{IsEndOf, stop_of};
+ghost use Rattle.query_run.specs.Running.RunOutcome.{Meant};
 
 use crate::run::RunEnd;
-use rm_base::limits::{ANSWER_MOST, ROW_MEASURE};
+use rm_base::limits::ANSWER_MOST;
 use rm_base::row::Row;
 use rm_base::row_list::RowList;
-
-/// What a row measures, in bytes; it stands still at its greatest value.
-fn measure(row: &Row) -> u64
-    ensures { result ≡ min (row_measure row.now) (2 ^ 64 - 1) }
-{
-    let mut measure: u64 = ROW_MEASURE;
-    for value in row.as_slice() {
-        measure = measure.saturating_add(value.measure());
-    }
-    measure
-}
+use tuples::tuple::Tuple;
 
 /// How many first rows there is room for.
 fn fitting(mut room: u64, rows: &[Row]) -> usize
@@ -29,7 +19,7 @@ fn fitting(mut room: u64, rows: &[Row]) -> usize
 {
     let mut count = 0;
     for row in rows {
-        let measure = measure(row);
+        let measure = Tuple::one(row).measure();
         if measure > room {
             return count;
         }
@@ -41,7 +31,7 @@ fn fitting(mut room: u64, rows: &[Row]) -> usize
 
 /// The end of a run with these rows.
 pub fn answer_of(rows: Vec<Row>) -> RunEnd
-    ensures outcome { IsEndOf (answer_of rows.items) result }
+    ensures outcome { IsEndOf (Meant (answer_of rows.items)) result }
     ensures stop { stop_of result ≡ None }
 {
     let count = fitting(ANSWER_MOST, &rows);

@@ -1,13 +1,16 @@
-//! Runs the plan of a SELECT over its tables.
+//! Runs the plan of a SELECT over its tables, inside a grant.
 //!
-//! The rows of the table that pass every comparison are shown by the select list (`scan`), ordered and cut to the LIMIT
-//! (`ordering`), and measured as an answer (`answer`).
+//! A run over one table takes its rows where the table lies (`scan`). A run over more joins them stage by stage (`stages`,
+//! by `keys` and `operands`), and reads the rows of the last stage where they lie (`reading`). The rows that remain are shown
+//! or grouped in order (`gathering`), and measured as an answer (`answer`).
 #![tactic(auto)]
 
 mod answer;
-mod comparing;
-mod error;
-mod ordering;
+mod gathering;
+mod keys;
+mod operands;
+mod pacing;
+mod reading;
 pub mod run;
 mod scan;
-mod showing;
+mod stages;

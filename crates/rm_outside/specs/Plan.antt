@@ -23,3 +23,8 @@ after_call plan = record plan {
 pub record Planned : Type 0 where
   pub bytes : List ℕ
   pub plan : Plan
+
+-- files by their paths behind a plan of failing calls
+pub record PlannedShelf : Type 0 where
+  pub shelf : List (List ℕ × List ℕ)
+  pub plan : Plan

@@ -4,6 +4,7 @@
 
 pub mod call_plan;
 mod copy;
+pub mod failing_shelf;
 pub mod failing_sink;
 pub mod failing_source;
 pub mod keeper;

@@ -27,27 +27,27 @@ first_with row [] begins memory = absurd (false≢true begins)
 first_with row (r ∷ rs) begins memory = first-turn row r rs (same_name r.name row.name) refl begins memory
 
 -- what the pools reserve then: as before, but for what this pool reserved and reserves
-abbrev pub memory_of : Name → Option PoolRow → ℕ
-memory_of name o = (unwrap_or o (default_pool_row name)).memory
+abbrev pub reserved_by : Name → Option PoolRow → ℕ
+reserved_by name o = (unwrap_or o (default_pool_row name)).memory
 
 reserved-turn : (row r : PoolRow) (rs : List PoolRow) (b : Bool)
-    → sum_by (λ x. x.memory) (pools_with row rs) + memory_of row.name (pool_called rs row.name) ≡ sum_by (λ x. x.memory) rs + row.memory
-    → sum_by (λ x. x.memory) (cond b (row ∷ rs) (r ∷ pools_with row rs)) + memory_of row.name (cond b (Some r) (pool_called rs row.name)) ≡ sum_by (λ x. x.memory) (r ∷ rs) + row.memory
+    → sum_by (λ x. x.memory) (pools_with row rs) + reserved_by row.name (pool_called rs row.name) ≡ sum_by (λ x. x.memory) rs + row.memory
+    → sum_by (λ x. x.memory) (cond b (row ∷ rs) (r ∷ pools_with row rs)) + reserved_by row.name (cond b (Some r) (pool_called rs row.name)) ≡ sum_by (λ x. x.memory) (r ∷ rs) + row.memory
 reserved-turn row r rs true behind = omega (arith, sum_by-cons (λ (x : PoolRow). x.memory) row rs, sum_by-cons (λ (x : PoolRow). x.memory) r rs)
 reserved-turn row r rs false behind =
     omega (arith, behind, sum_by-cons (λ (x : PoolRow). x.memory) r (pools_with row rs), sum_by-cons (λ (x : PoolRow). x.memory) r rs)
 
 pub reserved_with : (row : PoolRow) (pools : List PoolRow)
-    → sum_by (λ r. r.memory) (pools_with row pools) + memory_of row.name (pool_called pools row.name) ≡ sum_by (λ r. r.memory) pools + row.memory
+    → sum_by (λ r. r.memory) (pools_with row pools) + reserved_by row.name (pool_called pools row.name) ≡ sum_by (λ r. r.memory) pools + row.memory
 reserved_with row [] = omega (arith, sum_by-cons (λ (x : PoolRow). x.memory) row [])
 reserved_with row (r ∷ rs) = reserved-turn row r rs (same_name r.name row.name) (reserved_with row rs)
 
 -- what one pool reserves is part of what all do
-memory-turn : (r : PoolRow) (rs : List PoolRow) (name : Name) (b : Bool) → memory_of name (pool_called rs name) ≤ sum_by (λ x. x.memory) rs
-    → memory_of name (cond b (Some r) (pool_called rs name)) ≤ sum_by (λ x. x.memory) (r ∷ rs)
+memory-turn : (r : PoolRow) (rs : List PoolRow) (name : Name) (b : Bool) → reserved_by name (pool_called rs name) ≤ sum_by (λ x. x.memory) rs
+    → reserved_by name (cond b (Some r) (pool_called rs name)) ≤ sum_by (λ x. x.memory) (r ∷ rs)
 memory-turn r rs name true behind = omega (arith, sum_by-cons (λ (x : PoolRow). x.memory) r rs)
 memory-turn r rs name false behind = omega (arith, behind, sum_by-cons (λ (x : PoolRow). x.memory) r rs)
 
-pub memory_of-within : (pools : List PoolRow) (name : Name) → memory_of name (pool_called pools name) ≤ sum_by (λ r. r.memory) pools
-memory_of-within [] name = omega arith
-memory_of-within (r ∷ rs) name = memory-turn r rs name (same_name r.name name) (memory_of-within rs name)
+pub reserved_by-within : (pools : List PoolRow) (name : Name) → reserved_by name (pool_called pools name) ≤ sum_by (λ r. r.memory) pools
+reserved_by-within [] name = omega arith
+reserved_by-within (r ∷ rs) name = memory-turn r rs name (same_name r.name name) (reserved_by-within rs name)

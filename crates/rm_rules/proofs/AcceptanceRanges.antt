@@ -20,7 +20,7 @@ use Rattle.rm_rules.specs.PoolStatements.{max_whole, changed_pool}
 use Rattle.rm_rules.specs.UserStatements.{changed_user}
 use Rattle.rm_rules.proofs.Taken.{and_left, and_right, and_both}
 
-le-true : (a b : ℕ) → a ≤ b → nat_le a b ≡ true
+pub le-true : (a b : ℕ) → a ≤ b → nat_le a b ≡ true
 le-true a b h = grind (arith, nat_tests)
 
 -- a size in bytes is within the greatest, where that of which it is taken is

@@ -18,7 +18,7 @@ use Rattle.rm_rules.specs.Deadlines.{first_nowait, timed_out}
 use Rattle.rm_rules.specs.Settle.{first_too_large, ended_too_large, without_nowait, settled}
 use Rattle.rm_rules.specs.Change.{size_refusal, new_waiter, submitted}
 use Rattle.rm_rules.specs.Sound.{IsSound, has_pool}
-use Rattle.rm_rules.specs.Healthy.{AreSized, AreThere, AreHeld}
+use Rattle.rm_rules.specs.Healthy.{AreSized, AreThere, AreWithinMemory}
 use Rattle.rm_rules.proofs.Taken.{all_push}
 use Rattle.rm_rules.proofs.Known.{chosen-with}
 use Rattle.rm_rules.proofs.Refused.{not-refused}
@@ -49,7 +49,7 @@ first-alone s w alone fits =
 
 -- the query is admitted, and nothing else settles
 pub admitted-alone : (s : State) (x : Session) (pool : Name) (floor : ℕ) → IsSound s.definitions → AreSized s.definitions s.actual s.counters
-    → AreThere s.definitions s.sessions s.waiting s.running → AreHeld s.definitions (holdings_of s) → has_pool s.definitions pool ≡ true
+    → AreThere s.definitions s.sessions s.waiting s.running → AreWithinMemory s.definitions (holdings_of s) → has_pool s.definitions pool ≡ true
     → s.running ≡ [] → s.waiting ≡ [] → size_refusal s.definitions pool x.user floor ≡ None
     → (let t = (submitted s x pool floor).state in settled t ≡ admitted (shuffled_state t) (new_waiter s x pool floor))
 admitted-alone s x pool floor sound sized there held known idle nobody small =
@@ -76,7 +76,7 @@ pub record RunsAlone (s : State) (x : Session) (pool : Name) (floor : ℕ) (new 
   pub sessions : new.sessions ≡ with_phase x.number phase.Running (with_phase x.number phase.Waiting s.sessions)
 
 pub runs-alone : (s : State) (x : Session) (pool : Name) (floor : ℕ) → IsSound s.definitions → AreSized s.definitions s.actual s.counters
-    → AreThere s.definitions s.sessions s.waiting s.running → AreHeld s.definitions (holdings_of s) → has_pool s.definitions pool ≡ true
+    → AreThere s.definitions s.sessions s.waiting s.running → AreWithinMemory s.definitions (holdings_of s) → has_pool s.definitions pool ≡ true
     → s.running ≡ [] → s.waiting ≡ [] → size_refusal s.definitions pool x.user floor ≡ None → RunsAlone s x pool floor (settled (submitted s x pool floor).state)
 runs-alone s x pool floor sound sized there held known idle nobody small =
     let w = new_waiter s x pool floor in

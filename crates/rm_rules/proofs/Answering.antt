@@ -1,9 +1,9 @@
 -- What an answer and its entry keep.
-use Rattle.std.proofs.Common.{◌≡◌, ℕ, ◌+◌, ◌≤◌, Bool, true, false, not, cond, [], ◌∷◌, ◌++◌, length, Some, None, Option, refl, ap, arith}
+use Rattle.std.proofs.Common.{◌≡◌, ℕ, ◌+◌, ◌≤◌, Bool, true, false, not, cond, [], ◌∷◌, ◌++◌, Some, None, Option, refl, ap, arith}
 use Rattle.std.proofs.lemmas.List.Sums.{sum_by_push}
 use Rattle.std.proofs.lemmas.List.{length_push}
 use Rattle.rm_base.specs.declared.entry.Entry.{Entry}
-use Rattle.rm_base.specs.declared.limits.TheConstants.{CHANGES_MOST, ENTRIES_BEYOND}
+use Rattle.rm_base.specs.declared.limits.TheConstants.{ENTRIES_BEYOND}
 use Rattle.rm_base.specs.declared.refusal.Refusal.TheVariants as refusal
 use Rattle.rm_base.specs.declared.reply.Reply.TheVariants as reply
 use Rattle.rm_rules.specs.declared.answer.Answer.{Answer}
@@ -122,13 +122,6 @@ kept-recorded s e answer is h = record {
   room = room-turn s e (owed s.sessions s.waiting s.running) (is_defining answer) is h.room;
 }
 
--- the entry finds its place, and the numbers last given are within what the journal may hold
-fits-turn : (s : State) (b : Bool) → IsHealthyWith (cond b 0 1) (cond b 1 0) s → length s.journal + 1 ≤ s.room + ENTRIES_BEYOND + CHANGES_MOST
-fits-turn s true h = omega (arith, h.room.kept, h.room.defined, h.sound.changes)
-fits-turn s false h = omega (arith, h.room.kept, h.room.defined, h.sound.changes)
-
-pub entry-fits : (s : State) (answer : Answer) → IsHealthyWith (counted_for answer) (defining_for answer) s → length s.journal + 1 ≤ s.room + ENTRIES_BEYOND + CHANGES_MOST
-entry-fits s answer h = fits-turn s (is_defining answer) h
-
+-- the numbers last given are within what the journal may hold
 pub numbers-fit : (s : State) → IsHealthy s → (s.last_session ≤ s.room + ENTRIES_BEYOND) × (s.last_query ≤ s.room + ENTRIES_BEYOND)
 numbers-fit s h = (omega (arith, h.room.sessions, h.room.kept), omega (arith, h.room.queries, h.room.kept))

@@ -11,12 +11,12 @@ use Rattle.rm_rules.specs.declared.state.Reserve.{Reserve}
 use Rattle.rm_rules.specs.declared.state.Runner.{Runner}
 use Rattle.rm_rules.specs.Definitions.{user_pools}
 use Rattle.rm_rules.specs.State.{State}
-use Rattle.rm_rules.specs.Holdings.{Holdings, holdings, reserves_of, holdings_of}
+use Rattle.rm_rules.specs.Holdings.{Holdings, holdings, reserves_of, holdings_of, reserve_names}
 use Rattle.rm_rules.specs.Accounting.{held_in, used, debt, unused, of_reserve, lent, need}
 use Rattle.rm_rules.specs.Sound.{IsSound, has_pool, are_distinct}
 use Rattle.rm_rules.specs.Healthy.{AreSized, AreThere}
 use Rattle.rm_rules.proofs.Taken.{and_left, and_right, and_both, or_left_false, or_right_false, not_false}
-use Rattle.rm_rules.proofs.Pools.{names, reserve_names, worth, is_called, pool_names}
+use Rattle.rm_rules.proofs.Pools.{names, worth, is_called, pool_names}
 
 -- No two reserves have one name, none is GENERAL's, and each query runs in GENERAL or in a pool with a reserve.
 pub record AreNamed (h : Holdings) : Type 0 where

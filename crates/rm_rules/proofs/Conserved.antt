@@ -11,12 +11,12 @@ use Rattle.rm_base.proofs.Names.{same_name-eq}
 use Rattle.rm_rules.specs.declared.state.Holding.{Holding}
 use Rattle.rm_rules.specs.declared.state.Reserve.{Reserve}
 use Rattle.rm_rules.specs.State.{State}
-use Rattle.rm_rules.specs.Holdings.{Holdings, holdings_of}
+use Rattle.rm_rules.specs.Holdings.{Holdings, holdings_of, reserve_names}
 use Rattle.rm_rules.specs.Accounting.{held_in, used, own, debt, unused, of_reserve, own_of, actual_of, lent, granted, unused_reserves, taken_up, account_behind, accounts_behind, accounts}
 use Rattle.rm_rules.specs.Sound.{IsSound}
 use Rattle.rm_rules.specs.Healthy.{AreSized, AreThere, AreCovered}
 use Rattle.rm_rules.specs.Conserved.{own_in, from_general, AreConserved, IsConserved}
-use Rattle.rm_rules.proofs.Pools.{reserve_names, in_pool, worth, split_by_pools, others_agree, worth_of_all, sum_by-map}
+use Rattle.rm_rules.proofs.Pools.{in_pool, worth, split_by_pools, others_agree, worth_of_all, sum_by-map}
 use Rattle.rm_rules.proofs.Bytes.{AreNamed, named, apart, apart-rest}
 
 -- a sum over items, each in a pool that is named, is GENERAL's part and the parts of the others

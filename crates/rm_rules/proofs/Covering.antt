@@ -14,16 +14,16 @@ use Rattle.rm_rules.specs.declared.state.Waiter.{Waiter}
 use Rattle.rm_rules.specs.declared.state.Runner.{Runner}
 use Rattle.rm_rules.specs.Definitions.{total, user_pools}
 use Rattle.rm_rules.specs.State.{State, start, none_ended, without, without_runner}
-use Rattle.rm_rules.specs.Holdings.{Holdings, holding, holdings, holdings_of, reserves_of}
+use Rattle.rm_rules.specs.Holdings.{Holdings, holding, holdings, holdings_of, reserves_of, reserve_names}
 use Rattle.rm_rules.specs.Accounting.{held_in, free, need, kept_back}
 use Rattle.rm_rules.specs.Admission.{admitted, started, first_entitled}
 use Rattle.rm_rules.specs.Shuffle.{shuffled, shuffled_state}
 use Rattle.rm_rules.specs.Acceptance.{accepted, is_judged}
 use Rattle.rm_rules.specs.Change.{defined, runner_of}
 use Rattle.rm_rules.specs.Sound.{IsSound}
-use Rattle.rm_rules.specs.Healthy.{AreSized, AreThere, AreHeld, AreCovered}
+use Rattle.rm_rules.specs.Healthy.{AreSized, AreThere, AreWithinMemory, AreCovered}
 use Rattle.rm_rules.proofs.Taken.{all_push, sum_without}
-use Rattle.rm_rules.proofs.Pools.{reserve_names, sum_by-map}
+use Rattle.rm_rules.proofs.Pools.{sum_by-map}
 use Rattle.rm_rules.proofs.Bytes.{AreNamed, named, named-pool, with_grant, lent-push, lent-more, lent-less, lent-none, reserve_names-of}
 use Rattle.rm_rules.proofs.Queue.{first_entitled_fits, enough}
 use Rattle.rm_rules.proofs.There.{waiting-there}
@@ -85,13 +85,13 @@ sized-shuffled s sized =
 
 -- after the shuffle the bytes are covered
 pub covered-shuffled : (s : State) → IsSound s.definitions → AreSized s.definitions s.actual s.counters
-    → AreThere s.definitions s.sessions s.waiting s.running → AreHeld s.definitions (holdings_of s)
+    → AreThere s.definitions s.sessions s.waiting s.running → AreWithinMemory s.definitions (holdings_of s)
     → AreCovered s.definitions (holdings_of (shuffled_state s))
 covered-shuffled s sound sized there held =
     subst (AreCovered s.definitions) (sym (shuffled-bytes s sized)) (covered-shuffle s.definitions (holdings_of s) sound (named s sound sized there) held)
 
 -- the memory in force is then no more than it was, or the total
-pub force-shuffled : (s : State) → AreSized s.definitions s.actual s.counters → AreHeld s.definitions (holdings_of s)
+pub force-shuffled : (s : State) → AreSized s.definitions s.actual s.counters → AreWithinMemory s.definitions (holdings_of s)
     → (shuffled_state s).in_force ≤ max (total s.definitions) s.in_force
 force-shuffled s sized held = force-shuffle s.definitions (holdings_of s) held.within
 
@@ -103,8 +103,8 @@ held-without f test r running found =
 
 -- a query that ends leaves the bytes held
 pub held-finished : (s : State) (n : ℕ) (r : Runner) → runner_of s.running n ≡ Some r → IsSound s.definitions
-    → AreSized s.definitions s.actual s.counters → AreThere s.definitions s.sessions s.waiting s.running → AreHeld s.definitions (holdings_of s)
-    → (let u : State = record s { running = without_runner n s.running } in AreHeld s.definitions (holdings_of u))
+    → AreSized s.definitions s.actual s.counters → AreThere s.definitions s.sessions s.waiting s.running → AreWithinMemory s.definitions (holdings_of s)
+    → (let u : State = record s { running = without_runner n s.running } in AreWithinMemory s.definitions (holdings_of u))
 held-finished s n r found sound sized there held =
     let test = λ (x : Runner). eqb x.session n in
     let lends = lent-less (holdings_of s) (holdings (without_runner n s.running)) (λ p. omega (arith, held-without (held_in p) test r s.running found)) in
@@ -118,11 +118,11 @@ held-finished s n r found sound sized there held =
 pub record IsDefined (s : State) (d : Definitions) : Type 0 where
   pub sized : AreSized d (defined s d).state.actual (defined s d).state.counters
   pub there : AreThere d s.sessions s.waiting s.running
-  pub held : AreHeld d (holdings_of (defined s d).state)
+  pub held : AreWithinMemory d (holdings_of (defined s d).state)
 
 pub held-defined : (s : State) (statement : Statement) (d : Definitions) → is_judged statement ≡ true → accepted s.definitions statement ≡ Ok d
     → IsSound s.definitions → IsSound d → AreSized s.definitions s.actual s.counters → AreThere s.definitions s.sessions s.waiting s.running
-    → AreHeld s.definitions (holdings_of s) → IsDefined s d
+    → AreWithinMemory s.definitions (holdings_of s) → IsDefined s d
 held-defined s statement d judged is sound new sized there held =
     let after = accepted-names s.definitions statement d is in
     let p = places s d after sound sized there in

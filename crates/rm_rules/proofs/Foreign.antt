@@ -65,16 +65,6 @@ left-self n x sessions found = record {
   left = record { number = refl; seat = refl; user = refl; pool = refl; cap_ms = refl; phase = Stays x.phase };
 }
 
-pub left-then : (x y z : Session) → IsLeft x y → IsLeft y z → IsLeft x z
-left-then x y z h k = record {
-  number = k.number ∙ h.number;
-  seat = k.seat ∙ h.seat;
-  user = k.user ∙ h.user;
-  pool = k.pool ∙ h.pool;
-  cap_ms = k.cap_ms ∙ h.cap_ms;
-  phase = settles-then x.phase y.phase z.phase h.phase k.phase;
-}
-
 -- where a session goes over to another phase as settling may bring
 with-turn : (n m : ℕ) (p : Phase) (x : Session) (sessions : List Session) (h : IsLeftAt n x sessions) (b : Bool) → eqb m n ≡ b → (b ≡ true → Settles (phase_of sessions n) p)
     → IsLeftAt n x (with_phase m p sessions)

@@ -20,18 +20,18 @@ use Rattle.rm_rules.specs.declared.state.Cap.{Cap}
 use Rattle.rm_rules.specs.declared.state.Holding.{Holding}
 use Rattle.rm_rules.specs.declared.state.Reserve.{Reserve}
 use Rattle.rm_rules.specs.declared.state.Waiter.{Waiter}
-use Rattle.rm_rules.specs.Definitions.{total, reserved, memory_of, memory_cap, user_pools, pool_called, pool_row}
+use Rattle.rm_rules.specs.Definitions.{total, reserved, memory_size, memory_cap, user_pools, pool_called, pool_row}
 use Rattle.rm_rules.specs.Budget.{threshold}
 use Rattle.rm_rules.specs.Ask.{within, cap, narrowed, ask}
 use Rattle.rm_rules.specs.State.{State}
-use Rattle.rm_rules.specs.Holdings.{Holdings, holdings, holdings_of}
+use Rattle.rm_rules.specs.Holdings.{Holdings, holdings, holdings_of, reserve_names}
 use Rattle.rm_rules.specs.Accounting.{used, running_in, unused, kept_back, unused_of, lent, free, need}
 use Rattle.rm_rules.specs.Fit.{has_place, poolfit, can_lend}
 use Rattle.rm_rules.specs.Admission.{ask_of, judged_for, heads_behind, heads, put_in_order, in_queue_order, priority_of, is_entitled, is_blocked, first_among, first_entitled}
 use Rattle.rm_rules.specs.Sound.{IsSound, has_pool, begins_with_general, are_distinct}
 use Rattle.rm_rules.specs.Healthy.{AreSized, AreThere, AreCovered}
-use Rattle.rm_rules.proofs.Taken.{and_left, and_right, and_both, all_among, or_left_false, or_right_false}
-use Rattle.rm_rules.proofs.Pools.{names, reserve_names, worth, sum_by-map}
+use Rattle.rm_rules.proofs.Taken.{and_left, and_right, and_both, all_among, or_first, or_left_false, or_right_false}
+use Rattle.rm_rules.proofs.Pools.{names, worth, sum_by-map}
 use Rattle.rm_rules.proofs.Bytes.{apart, apart-rest, reserve_names-of, named-pool, lent-none}
 use Rattle.rm_rules.proofs.Queue.{heads_wait, ordered_among}
 use Rattle.rm_rules.proofs.Covering.{user_memory-most}
@@ -64,25 +64,25 @@ found-user [] distinct = tt
 found-user (r ∷ rs) distinct = (found-own (r ∷ rs) distinct).1
 
 -- so all MEMORYSIZEs of the pools but GENERAL are within what is reserved
-memory-found : (d : Definitions) (rs : List PoolRow) → AreFound (pool_called d.pools) rs → sum_by (λ r. memory_of d r.name) rs ≡ sum_by (λ r. r.memory) rs
+memory-found : (d : Definitions) (rs : List PoolRow) → AreFound (pool_called d.pools) rs → sum_by (λ r. memory_size d r.name) rs ≡ sum_by (λ r. r.memory) rs
 memory-found d [] found = refl
 memory-found d (r ∷ rs) found =
     omega (
       arith,
       ap {B = ℕ} (λ (o : Option PoolRow). (unwrap_or o (default_pool_row r.name)).memory) found.0,
       memory-found d rs found.1,
-      sum_by-cons (λ (x : PoolRow). memory_of d x.name) r rs,
+      sum_by-cons (λ (x : PoolRow). memory_size d x.name) r rs,
       sum_by-cons (λ (x : PoolRow). x.memory) r rs,
     )
 
 memory-reserved : (d : Definitions) (es : List Reserve) → IsSound d → reserve_names es ≡ names (user_pools d.pools)
-    → sum_by (λ e. memory_of d e.pool) es ≤ reserved d
+    → sum_by (λ e. memory_size d e.pool) es ≤ reserved d
 memory-reserved d es sound same =
     omega (
       arith,
-      sum_by-map (memory_of d) (λ (e : Reserve). e.pool) es,
-      ap (sum_by (memory_of d)) same,
-      sum_by-map (memory_of d) (λ (r : PoolRow). r.name) (user_pools d.pools),
+      sum_by-map (memory_size d) (λ (e : Reserve). e.pool) es,
+      ap (sum_by (memory_size d)) same,
+      sum_by-map (memory_size d) (λ (r : PoolRow). r.name) (user_pools d.pools),
       memory-found d (user_pools d.pools) (found-user d.pools sound.pools_distinct),
       user_memory-most d.pools,
     )
@@ -95,13 +95,13 @@ general-turn d (r ∷ rs) begins =
     ∙ eqb-true r.memory 0 (and_right (same_name r.name general) _ begins)
 
 -- where no pool uses any bytes, no pool at rest is above its MEMORYSIZE
-at_most : (d : Definitions) (grants : List Holding) (spare : ℕ) (e : Reserve) → ((p : Name) → used p grants ≡ 0) → RestsAt d grants spare e → e.size ≤ memory_of d e.pool
+at_most : (d : Definitions) (grants : List Holding) (spare : ℕ) (e : Reserve) → ((p : Name) → used p grants ≡ 0) → RestsAt d grants spare e → e.size ≤ memory_size d e.pool
 at_most d grants spare e none rests =
-    ⊎_elim (λ (over : memory_of d e.pool < e.size). absurd (omega (arith, over, rests.above over, none e.pool)))
-    (λ (most : e.size ≤ memory_of d e.pool). most) (cases_lt (memory_of d e.pool) e.size)
+    ⊎_elim (λ (over : memory_size d e.pool < e.size). absurd (omega (arith, over, rests.above over, none e.pool)))
+    (λ (most : e.size ≤ memory_size d e.pool). most) (cases_lt (memory_size d e.pool) e.size)
 
 sizes-most : (d : Definitions) (grants : List Holding) (spare : ℕ) (es : List Reserve) → ((p : Name) → used p grants ≡ 0) → AllRest d grants spare es
-    → kept_back es ≤ sum_by (λ e. memory_of d e.pool) es
+    → kept_back es ≤ sum_by (λ e. memory_size d e.pool) es
 sizes-most d grants spare [] none rests = omega arith
 sizes-most d grants spare (e ∷ es) none rests =
     omega (
@@ -109,24 +109,24 @@ sizes-most d grants spare (e ∷ es) none rests =
       at_most d grants spare e none rests.0,
       sizes-most d grants spare es none rests.1,
       sum_by-cons (λ (x : Reserve). x.size) e es,
-      sum_by-cons (λ (x : Reserve). memory_of d x.pool) e es,
+      sum_by-cons (λ (x : Reserve). memory_size d x.pool) e es,
     )
 
 -- all sizes together are below all MEMORYSIZEs by no less than one pool is below its own
 room-turn : (d : Definitions) (grants : List Holding) (spare : ℕ) (p : Name) (e : Reserve) (es : List Reserve) (b : Bool) → same_name e.pool p ≡ b
     → ((q : Name) → used q grants ≡ 0) → AllRest d grants spare (e ∷ es) → list_any (same_name p) (reserve_names (e ∷ es)) ≡ true
-    → (list_any (same_name p) (reserve_names es) ≡ true → memory_of d p + kept_back es ≤ worth (unused grants) es p + sum_by (λ x. memory_of d x.pool) es)
-    → memory_of d p + kept_back (e ∷ es) ≤ worth (unused grants) (e ∷ es) p + sum_by (λ x. memory_of d x.pool) (e ∷ es)
+    → (list_any (same_name p) (reserve_names es) ≡ true → memory_size d p + kept_back es ≤ worth (unused grants) es p + sum_by (λ x. memory_size d x.pool) es)
+    → memory_size d p + kept_back (e ∷ es) ≤ worth (unused grants) (e ∷ es) p + sum_by (λ x. memory_size d x.pool) (e ∷ es)
 room-turn d grants spare p e es true here none rests known more =
     let unused_here : worth (unused grants) (e ∷ es) p ≡ unused grants e = rw (here, worth) refl in
     omega (
       arith,
       unused_here,
-      ap (memory_of d) (same_name-eq e.pool p here),
+      ap (memory_size d) (same_name-eq e.pool p here),
       none e.pool,
       sizes-most d grants spare es none rests.1,
       sum_by-cons (λ (x : Reserve). x.size) e es,
-      sum_by-cons (λ (x : Reserve). memory_of d x.pool) e es,
+      sum_by-cons (λ (x : Reserve). memory_size d x.pool) e es,
     )
 room-turn d grants spare p e es false here none rests known more =
     let unused_there : worth (unused grants) (e ∷ es) p ≡ worth (unused grants) es p = rw (here, worth) refl in
@@ -137,28 +137,23 @@ room-turn d grants spare p e es false here none rests known more =
       more behind,
       at_most d grants spare e none rests.0,
       sum_by-cons (λ (x : Reserve). x.size) e es,
-      sum_by-cons (λ (x : Reserve). memory_of d x.pool) e es,
+      sum_by-cons (λ (x : Reserve). memory_size d x.pool) e es,
     )
 
 room-left : (d : Definitions) (grants : List Holding) (spare : ℕ) (p : Name) (es : List Reserve) → ((q : Name) → used q grants ≡ 0) → AllRest d grants spare es
-    → list_any (same_name p) (reserve_names es) ≡ true → memory_of d p + kept_back es ≤ worth (unused grants) es p + sum_by (λ x. memory_of d x.pool) es
+    → list_any (same_name p) (reserve_names es) ≡ true → memory_size d p + kept_back es ≤ worth (unused grants) es p + sum_by (λ x. memory_size d x.pool) es
 room-left d grants spare p [] none rests known = absurd (false≢true known)
 room-left d grants spare p (e ∷ es) none rests known =
     room-turn d grants spare p e es (same_name e.pool p) refl none rests known (room-left d grants spare p es none rests.1)
 
--- one side holds where the other does not
-other-side : (a b : Bool) → b ≡ false → (a || b) ≡ true → a ≡ true
-other-side true b is h = refl
-other-side false b is h = absurd (false≢true (sym is ∙ h))
-
 -- GENERAL has no reserve, and no MEMORYSIZE
 room-pool : (d : Definitions) (h : Holdings) (p : Name) (b : Bool) → list_any (same_name p) (reserve_names h.reserves) ≡ b → IsSound d
     → (same_name p general || list_any (same_name p) (reserve_names h.reserves)) ≡ true → ((q : Name) → used q h.grants ≡ 0) → Rests d h
-    → memory_of d p + kept_back h.reserves ≤ unused_of h p + sum_by (λ x. memory_of d x.pool) h.reserves
+    → memory_size d p + kept_back h.reserves ≤ unused_of h p + sum_by (λ x. memory_size d x.pool) h.reserves
 room-pool d h p true is sound known none rests = room-left d h.grants (free h) p h.reserves none rests is
 room-pool d h p false is sound known none rests =
-    let here : same_name p general ≡ true = other-side (same_name p general) _ is known in
-    let nothing : memory_of d p ≡ 0 = ap (memory_of d) (same_name-eq p general here) ∙ general-turn d d.pools sound.general_first in
+    let here : same_name p general ≡ true = or_first (same_name p general) _ is known in
+    let nothing : memory_size d p ≡ 0 = ap (memory_size d) (same_name-eq p general here) ∙ general-turn d d.pools sound.general_first in
     omega (arith, nothing, sizes-most d h.grants (free h) h.reserves none rests)
 
 -- a pool's cap is at most its MEMORYSIZE and what no pool reserves

@@ -155,10 +155,6 @@ unsettled-opened s seat user h may =
       };
     }
 
--- so the next session's number is within the journal's room
-pub number-opened : (s : State) (user : Name) → IsHealthyWith 0 0 s → MayOpen s user → s.last_session + 1 ≤ s.room
-number-opened s user h may = omega (arith, h.room.sessions, not_below _ _ may.not_full)
-
 -- SetPool
 unsettled-chosen : (s : State) (x : Session) (pool : Name) → IsHealthyWith 0 0 s → MayChoose s x pool → IsUnsettledWith 1 0 (choice_made s x pool).state
 unsettled-chosen s x pool h may =

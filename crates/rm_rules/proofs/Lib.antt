@@ -57,3 +57,4 @@ pub mod OrderLaws
 pub mod Distinct
 pub mod GroupLaws
 pub mod MatchLaws
+pub mod PartLaws

@@ -15,17 +15,13 @@ use Rattle.rm_rules.specs.Sound.{IsSound, has_pool, has_user, has_role, has_gran
 use Rattle.rm_rules.specs.Refusals.{grantee_taken, given_pool_missing, changes_full}
 use Rattle.rm_rules.specs.UserStatements.{given_pool, users_full, not_granted, create_user_refusal}
 use Rattle.rm_rules.specs.Acceptance.{accepted}
-use Rattle.rm_rules.proofs.Taken.{and_left, and_right, or_left_false, or_both_false}
+use Rattle.rm_rules.proofs.Taken.{and_left, and_right, or_first, or_left_false, or_both_false}
 use Rattle.rm_rules.proofs.Refused.{not-refused, first-none, not-missing}
 use Rattle.rm_rules.proofs.AcceptanceLaws.{accepted-left}
 
 and_second : (a b : Bool) → b ≡ false → (a && b) ≡ false
 and_second true b h = h
 and_second false b h = refl
-
-or_first : (a b : Bool) → b ≡ false → (a || b) ≡ true → a ≡ true
-or_first true b h e = refl
-or_first false b h e = sym h ∙ e
 
 -- nobody has granted anything to one who is no user
 none-of_all : {A : Type 0} (p q : A → Bool) (xs : List A) → ((x : A) → q x ≡ true → p x ≡ false) → list_all q xs ≡ true → list_any p xs ≡ false

@@ -3,7 +3,6 @@ use Rattle.std.specs.Prelude.{◌≡◌, ℕ, zero, suc, ◌-◌, ◌*◌, ◌�
 use Rattle.std.specs.List.{list_all}
 use Rattle.std.proofs.Common.{sym, ap, ◌∙◌, subst, arith}
 use Rattle.std.proofs.lemmas.Bool.{false≢true, leb-true}
-use Rattle.std.proofs.lemmas.Bool.Decides.{nat_tests}
 use Rattle.rm_base.specs.declared.limits.TheConstants.{TOTAL_LEAST, POOLS_MOST, CHANGES_MOST, CHAIN_MOST}
 use Rattle.rm_base.specs.declared.definitions.Definitions.{Definitions}
 use Rattle.rm_base.specs.declared.rows.PoolRow.{PoolRow}
@@ -26,10 +25,7 @@ use Rattle.rm_rules.proofs.Sizes.{row-in_range, sound_memory_most}
 use Rattle.rm_rules.proofs.Rows.{all_with, called_with, there_with, called-named, length_with-there, length_with-most, distinct_with-behind}
 use Rattle.rm_rules.proofs.AcceptancePools.{first_with}
 use Rattle.rm_rules.proofs.AcceptanceChains.{target_there, longest, each_ends}
-use Rattle.rm_rules.proofs.AcceptanceRanges.{changed-in_range}
-
-le-true : (a b : ℕ) → a ≤ b → nat_le a b ≡ true
-le-true a b h = grind (arith, nat_tests)
+use Rattle.rm_rules.proofs.AcceptanceRanges.{le-true, changed-in_range}
 
 or-left : (a b : Bool) → a ≡ true → (a || b) ≡ true
 or-left a b h = ap (λ c. c || b) h

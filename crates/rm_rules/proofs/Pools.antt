@@ -10,16 +10,14 @@ use Rattle.rm_base.specs.Name.{same_name, general}
 use Rattle.rm_base.proofs.Names.{same_name-refl, same_name-eq, same_name-sym}
 use Rattle.rm_rules.specs.declared.state.Reserve.{Reserve}
 use Rattle.rm_rules.specs.Definitions.{pool_called, user_pools}
+use Rattle.rm_rules.specs.Holdings.{reserve_names}
 use Rattle.rm_rules.specs.Accounting.{of_reserve}
 use Rattle.rm_rules.specs.Sound.{begins_with_general, are_distinct}
 use Rattle.rm_rules.proofs.Rows.{called-named}
 
--- the names of these rows, and of the pools of these reserves
+-- the names of these rows
 abbrev pub names : List PoolRow → List Name
 names rows = map (λ r. r.name) rows
-
-abbrev pub reserve_names : List Reserve → List Name
-reserve_names es = map (λ e. e.pool) es
 
 -- what of an item counts in this pool
 abbrev pub in_pool : {A : Type 0} → (A → Name) → (A → ℕ) → Name → A → ℕ

@@ -8,7 +8,7 @@ use Rattle.rm_base.specs.Name.{general}
 use Rattle.rm_rules.specs.declared.state.Holding.{Holding}
 use Rattle.rm_rules.specs.declared.state.Reserve.{Reserve}
 use Rattle.rm_rules.specs.declared.state.Waiter.{Waiter}
-use Rattle.rm_rules.specs.Definitions.{total, memory_of, user_pools}
+use Rattle.rm_rules.specs.Definitions.{total, memory_size, user_pools}
 use Rattle.rm_rules.specs.State.{State}
 use Rattle.rm_rules.specs.Holdings.{Holdings, holding, holdings_of}
 use Rattle.rm_rules.specs.Accounting.{used, debt, free, taken_up}
@@ -23,9 +23,9 @@ use Rattle.rm_rules.proofs.Covering.{admitted-bytes}
 
 -- a pool above its MEMORYSIZE uses all its bytes, and one below it has no debt, while so much is free
 pub record RestsAt (d : Definitions) (grants : List Holding) (spare : ℕ) (e : Reserve) : Type 0 where
-  pub above : memory_of d e.pool < e.size → e.size ≤ used e.pool grants
-  pub no_debt : e.size < memory_of d e.pool → used e.pool grants ≤ e.size
-  pub none_free : e.size < memory_of d e.pool → spare ≡ 0
+  pub above : memory_size d e.pool < e.size → e.size ≤ used e.pool grants
+  pub no_debt : e.size < memory_size d e.pool → used e.pool grants ≤ e.size
+  pub none_free : e.size < memory_size d e.pool → spare ≡ 0
 
 -- so do all of these
 abbrev pub AllRest : Definitions → List Holding → ℕ → List Reserve → Type 0
@@ -47,14 +47,14 @@ falls-turn used_bytes size memory false e most = refl
 rests-fallen : (d : Definitions) (grants : List Holding) (spare : ℕ) (es : List Reserve) → AllRest d grants spare es → fallen_reserves d grants es ≡ es
 rests-fallen d grants spare [] rests = refl
 rests-fallen d grants spare (e ∷ es) rests =
-    let here : fallen_size d grants e ≡ e.size = falls-turn (used e.pool grants) e.size (memory_of d e.pool) (ltb (memory_of d e.pool) e.size) refl rests.0.above in
+    let here : fallen_size d grants e ≡ e.size = falls-turn (used e.pool grants) e.size (memory_size d e.pool) (ltb (memory_size d e.pool) e.size) refl rests.0.above in
     ap (λ (n : ℕ). resized e n ∷ fallen_reserves d grants es) here ∙ ap (λ l. e ∷ l) (rests-fallen d grants spare es rests.1)
 
 -- and it does not grow
 no_growth : (d : Definitions) (grants : List Holding) (spare : ℕ) (e : Reserve) → RestsAt d grants spare e → growth d grants spare e ≡ 0
 no_growth d grants spare e rests =
-    ⊎_elim (λ (below : e.size < memory_of d e.pool). omega (arith, rests.no_debt below, rests.none_free below))
-    (λ (least : memory_of d e.pool ≤ e.size). omega (arith, least)) (cases_lt e.size (memory_of d e.pool))
+    ⊎_elim (λ (below : e.size < memory_size d e.pool). omega (arith, rests.no_debt below, rests.none_free below))
+    (λ (least : memory_size d e.pool ≤ e.size). omega (arith, least)) (cases_lt e.size (memory_size d e.pool))
 
 rests-grown : (d : Definitions) (grants : List Holding) (spare : ℕ) (es : List Reserve) → AllRest d grants spare es → grown_reserves d grants spare es ≡ es
 rests-grown d grants spare [] rests = refl
@@ -93,7 +93,7 @@ rests-shuffled s sized covered rests =
 -- each pool above its MEMORYSIZE uses all its bytes
 abbrev pub AreLow : Definitions → List Holding → List Reserve → Type 0
 AreLow d grants [] = Unit {0}
-AreLow d grants (e ∷ es) = (memory_of d e.pool < e.size → e.size ≤ used e.pool grants) × AreLow d grants es
+AreLow d grants (e ∷ es) = (memory_size d e.pool < e.size → e.size ≤ used e.pool grants) × AreLow d grants es
 
 low-turn : (used_bytes size memory : ℕ) (b : Bool) → ltb memory size ≡ b → memory < cond b (max memory (min used_bytes size)) size
     → cond b (max memory (min used_bytes size)) size ≤ used_bytes
@@ -105,7 +105,7 @@ low-turn used_bytes size memory false e above =
 fallen-low : (d : Definitions) (grants : List Holding) (es : List Reserve) → AreLow d grants (fallen_reserves d grants es)
 fallen-low d grants [] = tt
 fallen-low d grants (e ∷ es) =
-    (low-turn (used e.pool grants) e.size (memory_of d e.pool) (ltb (memory_of d e.pool) e.size) refl, fallen-low d grants es)
+    (low-turn (used e.pool grants) e.size (memory_size d e.pool) (ltb (memory_size d e.pool) e.size) refl, fallen-low d grants es)
 
 -- a pool that has grown rests, and if it is still below its MEMORYSIZE, nothing is left
 rests-turn : (used_bytes size memory spare : ℕ) → (memory < size → size ≤ used_bytes)
@@ -124,7 +124,7 @@ grown-rest : (d : Definitions) (grants : List Holding) (spare last : ℕ) (es : 
 grown-rest d grants spare last [] most low = tt
 grown-rest d grants spare last (e ∷ es) most low =
     let left = spare - (growth d grants spare e - debt grants e) in
-    let turn = rests-turn (used e.pool grants) e.size (memory_of d e.pool) spare low.0 in (
+    let turn = rests-turn (used e.pool grants) e.size (memory_size d e.pool) spare low.0 in (
       record {
         above = turn.0;
         no_debt = turn.1;

@@ -9,7 +9,7 @@ use Rattle.rm_base.specs.declared.rows.PoolRow.{PoolRow}
 use Rattle.rm_base.specs.Definitions.{default_pool_row}
 use Rattle.rm_rules.specs.declared.state.Session.{Session}
 use Rattle.rm_rules.specs.declared.state.Waiter.{Waiter}
-use Rattle.rm_rules.specs.Definitions.{memory_of, user_pools, pool_called, pool_row}
+use Rattle.rm_rules.specs.Definitions.{memory_size, user_pools, pool_called, pool_row}
 use Rattle.rm_rules.specs.Ask.{is_too_large}
 use Rattle.rm_rules.specs.State.{State, start, without, without_waiter}
 use Rattle.rm_rules.specs.Holdings.{reserves_of, holdings_of}
@@ -21,7 +21,7 @@ use Rattle.rm_rules.specs.Deadlines.{ended_as, is_nowait, first_nowait, timed_ou
 use Rattle.rm_rules.specs.Settle.{first_too_large, too_large_end, ended_too_large, without_too_large, without_nowait, settled}
 use Rattle.rm_rules.specs.Settled.{IsSettled}
 use Rattle.rm_rules.specs.Sound.{IsSound}
-use Rattle.rm_rules.specs.Healthy.{AreSized, AreThere, AreHeld, AreCovered}
+use Rattle.rm_rules.specs.Healthy.{AreSized, AreThere, AreWithinMemory, AreCovered}
 use Rattle.rm_rules.proofs.Queue.{without-fewer}
 use Rattle.rm_rules.proofs.Covering.{covered-admitted, sized-shuffled, covered-shuffled, sized-start, covered-start}
 use Rattle.rm_rules.proofs.There.{pools-ended, pools-admitted}
@@ -83,7 +83,7 @@ record IsFitting (s : State) : Type 0 where
   pub sound : IsSound s.definitions
   pub sized : AreSized s.definitions s.actual s.counters
   pub there : AreThere s.definitions s.sessions s.waiting s.running
-  pub held : AreHeld s.definitions (holdings_of s)
+  pub held : AreWithinMemory s.definitions (holdings_of s)
 
 fitting-ended : (end : End) (s : State) (w : Waiter) → IsFitting s → IsFitting (ended_as end s w)
 fitting-ended end s w h = record { sound = h.sound; sized = sized-ended end s w h.sized; there = pools-ended end s w h.there; held = h.held }
@@ -157,7 +157,7 @@ quiet-settled s h =
 
 -- what settling leaves is settled
 pub settled-is-settled : (s : State) → IsSound s.definitions → AreSized s.definitions s.actual s.counters → AreThere s.definitions s.sessions s.waiting s.running
-    → AreHeld s.definitions (holdings_of s) → IsSettled (settled s)
+    → AreWithinMemory s.definitions (holdings_of s) → IsSettled (settled s)
 settled-is-settled s sound sized there held =
     let v = without_nowait (admission (shuffled_state (without_too_large s))) in
     let h = quiet-settled s (record { sound = sound; sized = sized; there = there; held = held }) in
@@ -183,14 +183,14 @@ settled-again s h =
 
 -- to settle twice is to settle once
 pub settled-twice : (s : State) → IsSound s.definitions → AreSized s.definitions s.actual s.counters → AreThere s.definitions s.sessions s.waiting s.running
-    → AreHeld s.definitions (holdings_of s) → settled (settled s) ≡ settled s
+    → AreWithinMemory s.definitions (holdings_of s) → settled (settled s) ≡ settled s
 settled-twice s sound sized there held = settled-again (settled s) (settled-is-settled s sound sized there held)
 
 -- at the start each pool has its MEMORYSIZE, and nobody is there
 rests-start : (d : Definitions) (spare : ℕ) (rows : List PoolRow) → AreFound (pool_called d.pools) rows → AllRest d [] spare (reserves_of rows (map (λ r. r.memory) rows))
 rests-start d spare [] found = tt
 rests-start d spare (r ∷ rs) found =
-    let same : memory_of d r.name ≡ r.memory = ap {B = ℕ} (λ (o : Option PoolRow). (unwrap_or o (default_pool_row r.name)).memory) found.0 in (
+    let same : memory_size d r.name ≡ r.memory = ap {B = ℕ} (λ (o : Option PoolRow). (unwrap_or o (default_pool_row r.name)).memory) found.0 in (
       record {
         above = λ over. absurd (omega (arith, over, same));
         no_debt = λ below. absurd (omega (arith, below, same));

@@ -13,7 +13,7 @@ use Rattle.rm_rules.specs.Admission.{first_entitled, admitted, admission}
 use Rattle.rm_rules.specs.Shuffle.{shuffled_state}
 use Rattle.rm_rules.specs.Deadlines.{ended_as, deadline_of, is_due, is_nowait, first_due, first_nowait, timed_out, without_due}
 use Rattle.rm_rules.specs.Settle.{without_nowait, first_too_large, too_large_end, ended_too_large, without_too_large, settled}
-use Rattle.rm_rules.specs.Healthy.{AreSized, AreHeld, IsHealthyWith, IsUnsettledWith}
+use Rattle.rm_rules.specs.Healthy.{AreSized, AreWithinMemory, IsHealthyWith, IsUnsettledWith}
 use Rattle.rm_rules.proofs.Queue.{IsAmong, first_entitled_fits, found_among}
 use Rattle.rm_rules.proofs.Covering.{sized-shuffled, covered-shuffled, force-shuffled}
 use Rattle.rm_rules.proofs.Admitting.{healthy-admitted}
@@ -95,9 +95,6 @@ kept-settled entries statements s h =
     (λ t w end among p. healthy-ended entries statements end t w among p)
     (healthy-admitted entries statements) s h
 
-pub kept-admission : (entries statements : ℕ) (s : State) → IsHealthyWith entries statements s → IsHealthyWith entries statements (admission s)
-kept-admission entries statements s h = admission-keeps (IsHealthyWith entries statements) (healthy-admitted entries statements) s h
-
 -- deadlines leave it healthy, and with room for one entry more where one has come
 pub kept-without_due : (entries statements : ℕ) (s : State) → IsHealthyWith entries statements s → IsHealthyWith entries statements (without_due s)
 kept-without_due entries statements s h = due-keeps (IsHealthyWith entries statements) (λ t w end among p. healthy-ended entries statements end t w among p) s h
@@ -156,11 +153,11 @@ rest-due s = due-keeps (LeavesRest s) (λ t w end among p. rest-same s t p (ende
 -- the memory in force is then no more than it was, or the total
 record HasForce (first s : State) : Type 0 where
   pub sized : AreSized s.definitions s.actual s.counters
-  pub held : AreHeld s.definitions (holdings_of s)
+  pub held : AreWithinMemory s.definitions (holdings_of s)
   pub definitions : s.definitions ≡ first.definitions
   pub force : s.in_force ≡ first.in_force
 
-pub force-settled : (s : State) → AreSized s.definitions s.actual s.counters → AreHeld s.definitions (holdings_of s) → (settled s).in_force ≤ max (total s.definitions) s.in_force
+pub force-settled : (s : State) → AreSized s.definitions s.actual s.counters → AreWithinMemory s.definitions (holdings_of s) → (settled s).in_force ≤ max (total s.definitions) s.in_force
 force-settled s sized held =
     settled-leads (HasForce s) (λ t. t.in_force ≤ max (total s.definitions) s.in_force)
     (λ t w end among p. record { sized = sized-ended end t w p.sized; held = p.held; definitions = p.definitions; force = p.force })

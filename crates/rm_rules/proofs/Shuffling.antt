@@ -7,14 +7,13 @@ use Rattle.rm_base.specs.declared.definitions.Definitions.{Definitions}
 use Rattle.rm_base.specs.Name.{same_name, general}
 use Rattle.rm_rules.specs.declared.state.Holding.{Holding}
 use Rattle.rm_rules.specs.declared.state.Reserve.{Reserve}
-use Rattle.rm_rules.specs.Definitions.{total, memory_of, user_pools}
+use Rattle.rm_rules.specs.Definitions.{total, memory_size, user_pools}
 use Rattle.rm_rules.specs.State.{State}
-use Rattle.rm_rules.specs.Holdings.{Holdings, holdings_of}
+use Rattle.rm_rules.specs.Holdings.{Holdings, holdings_of, reserve_names}
 use Rattle.rm_rules.specs.Accounting.{used, debt, kept_back, taken_up, free}
 use Rattle.rm_rules.specs.Shuffle.{resized, fallen_size, fallen, with_force, growth, grown_reserves, grown, grown_anew, shuffled, shuffled_state}
 use Rattle.rm_rules.specs.Sound.{IsSound, are_distinct}
-use Rattle.rm_rules.specs.Healthy.{AreSized, AreHeld, AreCovered}
-use Rattle.rm_rules.proofs.Pools.{reserve_names}
+use Rattle.rm_rules.specs.Healthy.{AreSized, AreWithinMemory, AreCovered}
 use Rattle.rm_rules.proofs.Bytes.{AreNamed, reserve_names-of, reserves-again}
 use Rattle.rm_rules.proofs.Conserved.{granted-within}
 
@@ -45,20 +44,20 @@ fallen-sums : (d : Definitions) (grants : List Holding) (es : List Reserve)
     → (kept_back (fallen_reserves d grants es) ≤ kept_back es) × (sum_by (debt grants) (fallen_reserves d grants es) ≡ sum_by (debt grants) es)
 fallen-sums d grants [] = (omega arith, refl)
 fallen-sums d grants (e ∷ es) =
-    let turn = fallen-turn (used e.pool grants) e.size (memory_of d e.pool) (ltb (memory_of d e.pool) e.size) refl in
+    let turn = fallen-turn (used e.pool grants) e.size (memory_size d e.pool) (ltb (memory_size d e.pool) e.size) refl in
     let rest = fallen-sums d grants es in
     let now = resized e (fallen_size d grants e) in (
       omega (arith, turn.0, rest.0, sum_by-cons (λ (x : Reserve). x.size) now (fallen_reserves d grants es), sum_by-cons (λ (x : Reserve). x.size) e es),
       omega (arith, turn.1, rest.1, sum_by-cons (debt grants) now (fallen_reserves d grants es), sum_by-cons (debt grants) e es),
     )
 
-held-fallen : (d : Definitions) (h : Holdings) → AreHeld d h → AreHeld d (fallen d h)
+held-fallen : (d : Definitions) (h : Holdings) → AreWithinMemory d h → AreWithinMemory d (fallen d h)
 held-fallen d h held =
     let sums = fallen-sums d h.grants h.reserves in
     record { within = omega (arith, held.within, sums.0, sums.1); granted = held.granted; in_force_most = held.in_force_most }
 
 -- the memory in force covers what is reserved and lent
-held-force : (d : Definitions) (h : Holdings) → IsSound d → AreNamed h → AreHeld d h → AreHeld d (with_force d h)
+held-force : (d : Definitions) (h : Holdings) → IsSound d → AreNamed h → AreWithinMemory d h → AreWithinMemory d (with_force d h)
 held-force d h sound named held =
     let u = with_force d h in
     let all : AreNamed u = record { distinct = named.distinct; known = named.known } in
@@ -100,7 +99,7 @@ grown-whole d grants spare (e ∷ es) =
     let now = resized e (e.size + more) in
     omega (
       arith,
-      grown-turn (used e.pool grants) e.size (memory_of d e.pool) spare,
+      grown-turn (used e.pool grants) e.size (memory_size d e.pool) spare,
       grown-whole d grants left es,
       sum_by-cons (λ (x : Reserve). x.size) now (grown_reserves d grants left es),
       sum_by-cons (debt grants) now (grown_reserves d grants left es),
@@ -118,7 +117,7 @@ free-turn d h done e es within =
     let now : Holdings = record h { reserves = done ++ e ∷ es } in
     let more = growth d h.grants (free now) e in
     let then = resized e (e.size + more) in
-    let turn = grown-turn (used e.pool h.grants) e.size (memory_of d e.pool) (free now) in
+    let turn = grown-turn (used e.pool h.grants) e.size (memory_size d e.pool) (free now) in
     let size = λ (x : Reserve). x.size in
     let kept_now = sum_by-append size done (e ∷ es) in
     let kept_next = sum_by-append size (done ++ then ∷ []) es in
@@ -157,11 +156,11 @@ grown-by d h =
     let most = left_over-most d h.grants (free h) h.reserves in
     record { most = omega (arith, whole); least = omega (arith, whole, most) }
 
-held-grown : (d : Definitions) (h : Holdings) → AreHeld d h → AreHeld d (grown d h)
+held-grown : (d : Definitions) (h : Holdings) → AreWithinMemory d h → AreWithinMemory d (grown d h)
 held-grown d h held = record { within = omega (arith, held.within, (grown-by d h).most); granted = held.granted; in_force_most = held.in_force_most }
 
 -- after the shuffle the bytes are covered
-pub covered-shuffle : (d : Definitions) (h : Holdings) → IsSound d → AreNamed h → AreHeld d h → AreCovered d (shuffled d h)
+pub covered-shuffle : (d : Definitions) (h : Holdings) → IsSound d → AreNamed h → AreWithinMemory d h → AreCovered d (shuffled d h)
 covered-shuffle d h sound named held =
     let f = fallen d h in
     let t = with_force d f in

@@ -105,6 +105,11 @@ all_found p q (x ∷ xs) y all found =
     ] in
     turn (q x) found
 
+-- the first of two holds where the second does not
+pub or_first : (a b : Bool) → b ≡ false → (a || b) ≡ true → a ≡ true
+or_first true b h e = refl
+or_first false b h e = sym h ∙ e
+
 -- both sides of `||`
 pub or_left_false : (a b : Bool) → (a || b) ≡ false → a ≡ false
 or_left_false true b h = h

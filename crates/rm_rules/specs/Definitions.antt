@@ -34,8 +34,8 @@ user_pools [] = []
 user_pools (general_row ∷ pools) = pools
 
 -- the pool's MEMORYSIZE
-abbrev pub memory_of : Definitions → Name → ℕ
-memory_of d name = (pool_row d name).memory
+abbrev pub memory_size : Definitions → Name → ℕ
+memory_size d name = (pool_row d name).memory
 
 -- so many percent of a whole, rounded down
 abbrev pub percent_of : ℕ → ℕ → ℕ

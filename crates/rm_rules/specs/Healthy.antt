@@ -30,14 +30,14 @@ pub record AreThere (d : Definitions) (sessions : List Session) (waiting : List 
   pub chosen : list_all (λ x. passes_if_set (has_pool d) x.pool) sessions ≡ true
 
 -- what is reserved and lent, and what is granted, is within the memory in force, and that within the machine's
-pub record AreHeld (d : Definitions) (h : Holdings) : Type 0 where
+pub record AreWithinMemory (d : Definitions) (h : Holdings) : Type 0 where
   pub within : taken_up h ≤ h.in_force
   pub granted : granted h ≤ h.in_force
   pub in_force_most : h.in_force ≤ d.memory
 
 -- the total is in force, and more than it only while nothing is free
 pub record AreCovered (d : Definitions) (h : Holdings) : Type 0 where
-  pub held : AreHeld d h
+  pub held : AreWithinMemory d h
   pub in_force_least : total d ≤ h.in_force
   pub full_above_total : total d < h.in_force → free h ≡ 0
 
@@ -78,7 +78,7 @@ pub record IsUnsettledWith (entries statements : ℕ) (s : State) : Type 0 where
   pub sound : IsSound s.definitions
   pub sized : AreSized s.definitions s.actual s.counters
   pub there : AreThere s.definitions s.sessions s.waiting s.running
-  pub held : AreHeld s.definitions (holdings_of s)
+  pub held : AreWithinMemory s.definitions (holdings_of s)
   pub in_phase : AreInPhase s.sessions s.waiting s.running
   pub opened : AreOpened s.last_session s.sessions
   pub numbered : AreNumbered s.last_query s.waiting s.running

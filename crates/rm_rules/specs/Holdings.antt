@@ -2,6 +2,7 @@
 use Rattle.std.specs.Prelude.{ℕ, List, map}
 use Rattle.std.specs.List.{zip}
 use Rattle.rm_base.specs.declared.rows.PoolRow.{PoolRow}
+use Rattle.rm_base.specs.declared.name.Name.{Name}
 use Rattle.rm_rules.specs.declared.state.Runner.{Runner}
 use Rattle.rm_rules.specs.declared.state.Holding.{Holding}
 use Rattle.rm_rules.specs.declared.state.Reserve.{Reserve}
@@ -30,6 +31,10 @@ reserve e = record { pool = e.0.name; size = e.1 }
 -- these pools with these sizes
 abbrev pub reserves_of : List PoolRow → List ℕ → List Reserve
 reserves_of pools sizes = map reserve (zip pools sizes)
+
+-- the names of the pools of these reserves
+abbrev pub reserve_names : List Reserve → List Name
+reserve_names reserves = map (λ e. e.pool) reserves
 
 -- the bytes of a state
 abbrev pub holdings_of : State → Holdings

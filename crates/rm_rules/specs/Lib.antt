@@ -34,6 +34,7 @@ pub mod Grouping
 pub mod Ordering
 pub mod Meaning
 pub mod Matching
+pub mod Parting
 pub mod Stages
 pub mod StageKeys
 pub mod AllFits

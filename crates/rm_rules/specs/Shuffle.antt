@@ -3,7 +3,7 @@ use Rattle.std.specs.Prelude.{ℕ, ◌+◌, ◌-◌, nat_lt, List, [], ◌∷◌
 use Rattle.rm_base.specs.declared.definitions.Definitions.{Definitions}
 use Rattle.rm_rules.specs.declared.state.Holding.{Holding}
 use Rattle.rm_rules.specs.declared.state.Reserve.{Reserve}
-use Rattle.rm_rules.specs.Definitions.{total, memory_of}
+use Rattle.rm_rules.specs.Definitions.{total, memory_size}
 use Rattle.rm_rules.specs.State.{State}
 use Rattle.rm_rules.specs.Holdings.{Holdings, holdings_of}
 use Rattle.rm_rules.specs.Accounting.{own, debt, free, taken_up}
@@ -15,7 +15,7 @@ resized e size = record e { size = size }
 -- a pool above its MEMORYSIZE falls to it, or to the own bytes that it uses where these are more
 abbrev pub fallen_size : Definitions → List Holding → Reserve → ℕ
 fallen_size d grants e =
-    let memory = memory_of d e.pool in
+    let memory = memory_size d e.pool in
     if nat_lt memory e.size then max memory (own grants e) else e.size
 
 abbrev pub fallen : Definitions → Holdings → Holdings
@@ -27,7 +27,7 @@ with_force d h = record h { in_force = max (total d) (taken_up h) }
 
 -- by how much a pool below its MEMORYSIZE grows, while so much is free: within what it has borrowed and what is free
 abbrev pub growth : Definitions → List Holding → ℕ → Reserve → ℕ
-growth d grants spare e = min (memory_of d e.pool - e.size) (debt grants e + spare)
+growth d grants spare e = min (memory_size d e.pool - e.size) (debt grants e + spare)
 
 -- the sizes to which these pools grow, one after the other. What a pool had borrowed it pays back first, and what it
 -- grows by beyond that is free no more

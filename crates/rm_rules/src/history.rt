@@ -23,7 +23,7 @@ ghost use Rattle.rm_rules.specs.Change.{change};
 ghost use Rattle.rm_rules.specs.Step.{found_at, step, made, left_refused, IsSameButClock};
 ghost use Rattle.rm_rules.specs.Replay.{replay, IsFormed, IsLegal, own_entries};
 ghost use Rattle.rm_rules.specs.Sound.{IsSound};
-ghost use Rattle.rm_rules.specs.Healthy.{AreSized, AreThere, AreHeld, IsHealthy};
+ghost use Rattle.rm_rules.specs.Healthy.{AreSized, AreThere, AreWithinMemory, IsHealthy};
 ghost use Rattle.rm_rules.specs.Conserved.{ConservedAfterEach};
 ghost use Rattle.rm_rules.specs.Grants.{Run, run_of, RaisesForce, KeepsGrants, BytesAreKept, IsAdmittedAtOnce};
 ghost use Rattle.rm_rules.specs.Sessions.{session_in, LeavesForeign};
@@ -182,7 +182,7 @@ pub fn settling_twice_is_settling_once()
         → IsSound s.definitions
         → AreSized s.definitions s.actual s.counters
         → AreThere s.definitions s.sessions s.waiting s.running
-        → AreHeld s.definitions (holdings_of s)
+        → AreWithinMemory s.definitions (holdings_of s)
         → settled (settled s) ≡ settled s }
     ensures step { (s : State) (seat at : ℕ) (event : Event)
         → IsHealthy s

@@ -5,6 +5,7 @@ use rm_outside::memory_shelf::MemoryShelf;
 use rm_outside::memory_sink::MemorySink;
 use rm_outside::memory_source::MemorySource;
 use rm_outside::memory_spool::MemorySpool;
+use rm_outside::shelf::Shelf;
 use rm_outside::sink::Sink;
 use rm_outside::source::Source;
 use sessions::script_main::script_main;
@@ -15,13 +16,16 @@ use std::test::Fail;
 mod borrowing;
 mod faults;
 mod grantees;
+mod joins;
 mod limits;
 mod lines;
 mod options;
+mod queries;
 mod queue;
 mod rooms;
 mod session_calls;
 mod statements;
+mod tables;
 mod users;
 
 /// The words that most scripts here run with. T is 95 percent of 100 MiB, which is 99,614,720 bytes, the threshold of
@@ -35,22 +39,24 @@ fn status_over<S: Source, O: Sink>(
     input: &mut S,
     out: &mut O,
 ) -> Result<u8, Fail> {
+    status_with(alloc, line, input, out, &mut MemoryShelf::new(alloc))
+}
+
+/// The same with the files of this shelf.
+fn status_with<S: Source, O: Sink, H: Shelf>(
+    alloc: Global,
+    line: &str,
+    input: &mut S,
+    out: &mut O,
+    shelf: &mut H,
+) -> Result<u8, Fail> {
     let mut words = Vec::new(alloc);
     for word in line.split(' ') {
         words.push(String::from_str(alloc, word)?)?;
     }
-    let mut shelf = MemoryShelf::new(alloc);
     let mut spool = MemorySpool::new(alloc);
     let mut keeper = MemoryKeeper::new();
-    let status = script_main(
-        alloc,
-        &words,
-        input,
-        out,
-        &mut shelf,
-        &mut spool,
-        &mut keeper,
-    );
+    let status = script_main(alloc, &words, input, out, shelf, &mut spool, &mut keeper);
     Ok(status.0)
 }
 

@@ -1,4 +1,6 @@
 mod files;
+mod runs;
+mod side_by_side;
 mod tables;
 mod values;
 

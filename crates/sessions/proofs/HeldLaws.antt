@@ -15,7 +15,7 @@ use Rattle.rm_rules.specs.Replay.{IsFormed}
 use Rattle.rm_rules.proofs.Places.{position-within, position-is, find-found, without-found}
 use Rattle.rm_rules.proofs.Taken.{found_passes}
 use Rattle.sessions.specs.declared.held.Held.{Held}
-use Rattle.sessions.specs.Held.{named, names_of, IsHeld, AreApart, AreHeld}
+use Rattle.sessions.specs.Held.{named, held_names, IsHeld, AreApart, AreHeld}
 use Rattle.sessions.specs.Host.{Known, Called}
 use Rattle.sessions.specs.Running.{ends_nothing}
 use Rattle.sessions.specs.Session.{SeesOpen}
@@ -135,7 +135,7 @@ pub list_any-map : {A B : Type 0} (p : B → Bool) (f : A → B) (xs : List A) �
 list_any-map p f [] = refl
 list_any-map p f (x ∷ xs) = ap (λ b. p (f x) || b) (list_any-map p f xs)
 
-names-without : (hs : List Held) (place : ℕ) → remove (names_of hs) place ≡ names_of (remove hs place)
+names-without : (hs : List Held) (place : ℕ) → remove (held_names hs) place ≡ held_names (remove hs place)
 names-without hs place =
     ap (λ l. l ++ drop (suc place) (map named hs)) (take-map named place hs) ∙ ap (λ l. map named (take place hs) ++ l) (drop-map named (suc place) hs)
     ∙ sym (map-append named (take place hs) (drop (suc place) hs))
@@ -144,21 +144,21 @@ names-without hs place =
 pub record IsNamed (hs : List Held) (name : Name) (place : ℕ) (h : Held) : Type 0 where
   pub within : place < length hs
   pub called : h.name ≡ name
-  pub session : session_named (names_of hs) name ≡ Some h.session.number
-  pub gone : without_name name (names_of hs) ≡ names_of (take place hs ++ drop (suc place) hs)
+  pub session : session_named (held_names hs) name ≡ Some h.session.number
+  pub gone : without_name name (held_names hs) ≡ held_names (take place hs ++ drop (suc place) hs)
 
-pub found-at : (hs : List Held) (names : List Named) (name : Name) (place : ℕ) (x : Held) → names_of hs ≡ names → place_named names name ≡ Some place → x ≡ get_or hs place x → IsNamed hs name place x
+pub found-at : (hs : List Held) (names : List Named) (name : Name) (place : ℕ) (x : Held) → held_names hs ≡ names → place_named names name ≡ Some place → x ≡ get_or hs place x → IsNamed hs name place x
 found-at hs names name place x seen found at =
     let test : Named → Bool = λ n. same_name n.name name in
-    let placed : position test (names_of hs) ≡ Some place = ap (λ (l : List Named). place_named l name) seen ∙ found in
-    let within : place < length hs = omega (arith, position-within test (names_of hs) place placed, position-is test (names_of hs) place placed, length-map hs named) in
-    let there : find test (names_of hs) ≡ Some (named x) =
-    find-found test (names_of hs) place (named x) placed (ap named at ∙ sym (get_or-map named hs place x (named x) within)) in
+    let placed : position test (held_names hs) ≡ Some place = ap (λ (l : List Named). place_named l name) seen ∙ found in
+    let within : place < length hs = omega (arith, position-within test (held_names hs) place placed, position-is test (held_names hs) place placed, length-map hs named) in
+    let there : find test (held_names hs) ≡ Some (named x) =
+    find-found test (held_names hs) place (named x) placed (ap named at ∙ sym (get_or-map named hs place x (named x) within)) in
     record {
       within = within;
-      called = same_name-eq x.name name (found_passes test (named x) (names_of hs) there);
+      called = same_name-eq x.name name (found_passes test (named x) (held_names hs) there);
       session = ap (option_map (λ (n : Named). n.session)) there;
-      gone = without-found test (names_of hs) place placed ∙ names-without hs place;
+      gone = without-found test (held_names hs) place placed ∙ names-without hs place;
     }
 
 -- what each call leaves of the session at a place, and of the others

@@ -12,20 +12,19 @@ use Rattle.sessions.specs.declared.held.Held.{Held}
 use Rattle.sessions.specs.declared.submitted.Submitted.{Submitted}
 use Rattle.sessions.specs.declared.submitted.Submitted.TheVariants.{Admitted, Waiting, Ended, Refused}
 use Rattle.sessions.specs.Granted.{Granted}
-use Rattle.sessions.specs.Held.{IsHeld, printed, PrintsAs, grant_after}
+use Rattle.sessions.specs.Held.{IsHeld, printed, unnumbered, PrintsAs, grant_after}
 use Rattle.sessions.specs.Host.{Known, state_of, Called}
 use Rattle.sessions.specs.Session.{SeesOpen, HoldsGrant, CallsOnce, IsTold, is_admitted, IfAdmitted}
-use Rattle.sessions.specs.Texts.{line_text, queued_text}
 use Rattle.sessions.proofs.EndingLaws.{close-closed, close-other}
 use Rattle.sessions.proofs.HeldLaws.{held-goes_on}
 use Rattle.sessions.proofs.SessionLaws.{running-called, running-open, close-reply}
 
 -- what a session was told prints as the reply did
 told-prints : (number : ℕ) (told : Submitted) (r : Reply) → IsTold number told r → PrintsAs (printed told) r
-told-prints number (Admitted grant account) r is session = (sym (ap (line_text session) is.1), sym (ap (queued_text session) is.1))
-told-prints number (Waiting place) r is session = (sym (ap (line_text session) is.1), sym (ap (queued_text session) is.1))
-told-prints number (Ended end) r is session = (sym (ap (line_text session) is), sym (ap (queued_text session) is))
-told-prints number (Refused refusal) r is session = (sym (ap (line_text session) is), sym (ap (queued_text session) is))
+told-prints number (Admitted grant account) r is = sym (ap unnumbered is.1)
+told-prints number (Waiting place) r is = sym (ap unnumbered is.1)
+told-prints number (Ended end) r is = sym (ap unnumbered is)
+told-prints number (Refused refusal) r is = sym (ap unnumbered is)
 
 pub call-prints : (old new : Known) (at : ℕ) (event : Event) (number : ℕ) (told : Submitted) (r : Reply) → r ≡ printed told → CallsOnce old new at event (IsTold number told)
     → CallsOnce old new at event (PrintsAs r)

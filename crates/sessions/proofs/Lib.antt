@@ -9,6 +9,12 @@ pub mod EndedLaws
 pub mod EndedLemmas
 mod HeldLaws
 mod HoldingLaws
+mod AnswerLemmas
+mod TableLemmas
+mod CommandLemmas
+mod CsvLemmas
+mod PrintLemmas
+mod PlanLemmas
 mod TurnLemmas
 mod FreshLaws
 pub mod RunLemmas

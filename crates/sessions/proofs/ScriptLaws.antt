@@ -13,7 +13,18 @@ use Rattle.rm_base.specs.declared.name.Name.{Name}
 use Rattle.rm_base.specs.declared.refusal.Refusal.{Refusal}
 use Rattle.rm_base.specs.declared.reply.Reply.{Reply}
 use Rattle.rm_base.specs.declared.reply.Reply.TheVariants as reply
+use Rattle.rm_base.specs.declared.limits.TheConstants.{FILE_MOST}
+use Rattle.rm_base.specs.declared.select.Select.{Select}
 use Rattle.rm_base.specs.declared.statement.Statement.{Statement}
+use Rattle.rm_base.specs.Select.{select_floor}
+use Rattle.rm_base.specs.TableSeen.{TableSeen}
+use Rattle.csv_tables.specs.declared.load_error.LoadError.{LoadError}
+use Rattle.csv_tables.specs.Loading.{table_of}
+use Rattle.csv_tables.specs.Named.{catalog_of}
+use Rattle.query_plan.specs.Reading.{read_of as select_of}
+use Rattle.std.specs.Prelude.{codes}
+use Rattle.sessions.specs.declared.status.TheConstants.{BAD_TABLE}
+use Rattle.sessions.specs.AnswerTexts.{unloaded_text}
 use Rattle.rm_base.specs.Definitions.{fresh}
 use Rattle.rm_base.specs.WellFormed.{IsWellFormed}
 use Rattle.rm_outside.specs.Stored.{StoredRows}
@@ -24,10 +35,10 @@ use Rattle.rm_rules.specs.Replay.{replay, IsFormed, IsLegal}
 use Rattle.rm_rules.proofs.Laws.{legal-step, replay-step, conserved-after-each, fresh-sound, healthy-start}
 use Rattle.rm_rules.proofs.Histories.{bytes-from}
 use Rattle.sessions.specs.declared.options.Options.{Options}
-use Rattle.sessions.specs.Commands.{Request, SetPool, Ask, Poll, Done, Close, Command, At, Sql, Open, Of, command_of}
+use Rattle.sessions.specs.Commands.{Request, SetPool, Ask, Poll, Done, Close, Command, At, Sql, Open, Query, Load, Of, command_of}
 use Rattle.sessions.specs.Options.{options_of}
-use Rattle.sessions.specs.Script.{command_turn, line_turn, is_comment, ScriptEnd, turn_end, lines_end, no_script, script_start, first_state, script_with, script, IsOneHistory}
-use Rattle.sessions.specs.Turns.{ScriptState, Turn, Bad, Goes, Stops, judged_turn, read_turn, chosen_turn, after_open, opened_turn, opening_turn, after_close, close_turn, request_turn, session_turn, turn}
+use Rattle.sessions.specs.Script.{Files, command_turn, line_turn, is_comment, ScriptEnd, turn_end, lines_end, no_script, script_start, first_state, script_with, script, IsOneHistory}
+use Rattle.sessions.specs.Turns.{ScriptState, Turn, Bad, Goes, Stops, judged_turn, read_turn, chosen_turn, after_open, opened_turn, opening_turn, after_close, close_turn, after_submit, query_turn, query_for, after_poll, poll_turn, after_finish, done_turn, loaded_turn, file_turn, has_no_place, table_turn, request_turn, session_turn, turn}
 use Rattle.sessions.specs.SessionNames.{session_named}
 use Rattle.sessions.proofs.OptionsLaws.{options-within}
 
@@ -80,42 +91,90 @@ opens P each s session user pool h =
     let t : ScriptState = record s { machine = o.state } in
     follows_open P each (after_open t session o.reply) session pool o.reply (subst P (sym (after_open-machine t session o.reply)) (each s.machine s.moment (event.Open user) tt h))
 
-after_close-machine : (s : ScriptState) (session : Name) (r : Reply) → (after_close s session r).machine ≡ s.machine
-after_close-machine s session reply.Closed = refl
-after_close-machine s session _ = refl
+after_close-machine : (s : ScriptState) (session : Name) (number : ℕ) (r : Reply) → (after_close s session number r).machine ≡ s.machine
+after_close-machine s session number reply.Closed = refl
+after_close-machine s session number _ = refl
 
 closes : (P : State → Type 0) → IsKeptByCalls P → (s : ScriptState) (session : Name) (number : ℕ) → P s.machine → OnTurn P (close_turn s session number)
 closes P each s session number h =
     let o = step s.machine 0 s.moment (event.Close number) in
-    subst P (sym (after_close-machine (record s { machine = o.state }) session o.reply)) (each s.machine s.moment (event.Close number) tt h)
+    subst P (sym (after_close-machine (record s { machine = o.state }) session number o.reply)) (each s.machine s.moment (event.Close number) tt h)
+
+after_submit-machine : (s : ScriptState) (number : ℕ) (plan : Select) (r : Reply) → (after_submit s number plan r).machine ≡ s.machine
+after_submit-machine s number plan (reply.Admitted query pool grant own borrowed) = refl
+after_submit-machine s number plan (reply.Waiting query place) = refl
+after_submit-machine s number plan _ = refl
+
+queries : (P : State → Type 0) → IsKeptByCalls P → (s : ScriptState) (session : Name) (number : ℕ) (r : Result Select Refusal) → P s.machine → OnTurn P (query_turn s session number r)
+queries P each s session number (Err refusal) h = h
+queries P each s session number (Ok plan) h =
+    let e : Event = event.Submit number (select_floor plan) in
+    let o = step s.machine 0 s.moment e in
+    subst P (sym (after_submit-machine (record s { machine = o.state }) number plan o.reply)) (each s.machine s.moment e tt h)
+
+for_query : (P : State → Type 0) → IsKeptByCalls P → (s : ScriptState) (session : Name) (text : List ℕ) (o : Option ℕ) → P s.machine → OnTurn P (query_for s session text o)
+for_query P each s session text None h = tt
+for_query P each s session text (Some number) h = queries P each s session number (select_of (catalog_of s.tables) text) h
+
+after_poll-machine : (s : ScriptState) (number : ℕ) (r : Reply) → (after_poll s number r).machine ≡ s.machine
+after_poll-machine s number (reply.Ended end) = refl
+after_poll-machine s number _ = refl
+
+polls : (P : State → Type 0) → IsKeptByCalls P → (s : ScriptState) (session : Name) (number : ℕ) → P s.machine → OnTurn P (poll_turn s session number)
+polls P each s session number h =
+    let o = step s.machine 0 s.moment (event.Poll number) in
+    subst P (sym (after_poll-machine (record s { machine = o.state }) number o.reply)) (each s.machine s.moment (event.Poll number) tt h)
+
+after_finish-machine : (s : ScriptState) (number : ℕ) (r : Reply) → (after_finish s number r).machine ≡ s.machine
+after_finish-machine s number (reply.Released grant) = refl
+after_finish-machine s number _ = refl
+
+finishes : (P : State → Type 0) → IsKeptByCalls P → (s : ScriptState) (session : Name) (number : ℕ) → P s.machine → OnTurn P (done_turn s session number)
+finishes P each s session number h =
+    let o = step s.machine 0 s.moment (event.Finish number) in
+    subst P (sym (after_finish-machine (record s { machine = o.state }) number o.reply)) (each s.machine s.moment (event.Finish number) tt h)
+
+loads : (P : State → Type 0) (s : ScriptState) (name : Name) (r : Result TableSeen LoadError) → P s.machine → OnTurn P (loaded_turn s name r)
+loads P s name (Err fault) h = h
+loads P s name (Ok table) h = h
+
+of_file : (P : State → Type 0) (s : ScriptState) (name : Name) (file : Option (List ℕ)) → P s.machine → OnTurn P (file_turn s name file)
+of_file P s name None h = h
+of_file P s name (Some bytes) h =
+    elim (ltb FILE_MOST (length bytes)) as (λ b. OnTurn P (cond b (Stops (unloaded_text name (codes "long")) BAD_TABLE s) (loaded_turn s name (table_of bytes)))) [
+      | true ↦ h
+      | false ↦ loads P s name (table_of bytes) h
+    ]
 
 requests : (P : State → Type 0) → IsKeptByCalls P → (s : ScriptState) (session : Name) (number : ℕ) (r : Request) → P s.machine → OnTurn P (request_turn s session number r)
 requests P each s session number (SetPool pool) h = each s.machine s.moment (event.SetPool number pool) tt h
 requests P each s session number (Ask floor) h = each s.machine s.moment (event.Submit number floor) tt h
-requests P each s session number Poll h = each s.machine s.moment (event.Poll number) tt h
-requests P each s session number Done h = each s.machine s.moment (event.Finish number) tt h
+requests P each s session number Poll h = polls P each s session number h
+requests P each s session number Done h = finishes P each s session number h
 requests P each s session number Close h = closes P each s session number h
 
 for_session : (P : State → Type 0) → IsKeptByCalls P → (s : ScriptState) (session : Name) (r : Request) (o : Option ℕ) → P s.machine → OnTurn P (session_turn s session r o)
 for_session P each s session r None h = tt
 for_session P each s session r (Some number) h = requests P each s session number r h
 
-turn_keeps : (P : State → Type 0) → IsKeptByCalls P → (s : ScriptState) (c : Command) → P s.machine → OnTurn P (turn s c)
-turn_keeps P each s (At moment) h = bad_or P _ (Goes [] (record s { moment = moment })) h
-turn_keeps P each s (Sql text) h = reads P each s (read_of text) (λ st is. spells-well_formed text st ((read_of-spells text st).0 is)) h
-turn_keeps P each s (Open session user pool) h = bad_or P _ (opening_turn s session user pool) (opens P each s session user pool h)
-turn_keeps P each s (Of session r) h = for_session P each s session r (session_named s.names session) h
+turn_keeps : (P : State → Type 0) → IsKeptByCalls P → (files : Files) (s : ScriptState) (c : Command) → P s.machine → OnTurn P (turn files s c)
+turn_keeps P each files s (At moment) h = bad_or P _ (Goes [] (record s { moment = moment })) h
+turn_keeps P each files s (Sql text) h = reads P each s (read_of text) (λ st is. spells-well_formed text st ((read_of-spells text st).0 is)) h
+turn_keeps P each files s (Open session user pool) h = bad_or P _ (opening_turn s session user pool) (opens P each s session user pool h)
+turn_keeps P each files s (Query session text) h = for_query P each s session text (session_named s.names session) h
+turn_keeps P each files s (Load name path) h = bad_or P (has_no_place s.tables name) (file_turn s name (files path)) (of_file P s name (files path) h)
+turn_keeps P each files s (Of session r) h = for_session P each s session r (session_named s.names session) h
 
-command_keeps : (P : State → Type 0) → IsKeptByCalls P → (s : ScriptState) (o : Option Command) → P s.machine → OnTurn P (command_turn s o)
-command_keeps P each s None h = tt
-command_keeps P each s (Some c) h = turn_keeps P each s c h
+command_keeps : (P : State → Type 0) → IsKeptByCalls P → (files : Files) (s : ScriptState) (o : Option Command) → P s.machine → OnTurn P (command_turn files s o)
+command_keeps P each files s None h = tt
+command_keeps P each files s (Some c) h = turn_keeps P each files s c h
 
-line_keeps : (P : State → Type 0) → IsKeptByCalls P → (s : ScriptState) (line : List ℕ) → P s.machine → OnTurn P (line_turn s line)
-line_keeps P each s line h =
-    bad_or P _ (cond (is_comment line) (Goes [] s) (command_turn s (command_of line)))
-    (elim (is_comment line) as (λ b. OnTurn P (cond b (Goes [] s) (command_turn s (command_of line)))) [
+line_keeps : (P : State → Type 0) → IsKeptByCalls P → (files : Files) (s : ScriptState) (line : List ℕ) → P s.machine → OnTurn P (line_turn files s line)
+line_keeps P each files s line h =
+    bad_or P _ (cond (is_comment line) (Goes [] s) (command_turn files s (command_of line)))
+    (elim (is_comment line) as (λ b. OnTurn P (cond b (Goes [] s) (command_turn files s (command_of line)))) [
       | true ↦ h
-      | false ↦ command_keeps P each s (command_of line) h
+      | false ↦ command_keeps P each files s (command_of line) h
     ])
 
 -- what each machine call keeps holds of the journal with which the lines end
@@ -126,11 +185,11 @@ turn_end-keeps P J tells n s (Goes text s') next h k more = more s' k
 turn_end-keeps P J tells n s (Stops text status s') next h k more = tells s'.machine k
 
 lines_end-keeps : (P : State → Type 0) (J : List Entry → Type 0) → ((m : State) → P m → J m.journal) → IsKeptByCalls P
-    → (n : ℕ) (s : ScriptState) (lines : List (List ℕ)) → P s.machine → J (lines_end n s lines).journal
-lines_end-keeps P J tells each n s [] h = tells s.machine h
-lines_end-keeps P J tells each n s (line ∷ more) h =
-    turn_end-keeps P J tells n s (line_turn s line) (λ next. lines_end (n + 1) next more) h (line_keeps P each s line h)
-    (λ s' k. lines_end-keeps P J tells each (n + 1) s' more k)
+    → (files : Files) (n : ℕ) (s : ScriptState) (lines : List (List ℕ)) → P s.machine → J (lines_end files n s lines).journal
+lines_end-keeps P J tells each files n s [] h = tells s.machine h
+lines_end-keeps P J tells each files n s (line ∷ more) h =
+    turn_end-keeps P J tells n s (line_turn files s line) (λ next. lines_end files (n + 1) next more) h (line_keeps P each files s line h)
+    (λ s' k. lines_end-keeps P J tells each files (n + 1) s' more k)
 
 -- the machine's journal is legal, and leads to the machine
 pub record IsHistory (first m : State) : Type 0 where
@@ -140,20 +199,20 @@ pub record IsHistory (first m : State) : Type 0 where
 history-step : (first : State) → IsKeptByCalls (IsHistory first)
 history-step first m at e formed h = record { legal = legal-step first m 0 at e formed h.legal h.replays; replays = replay-step first m 0 at e h.replays }
 
-pub legal-lines : (first : State) (n : ℕ) (s : ScriptState) (lines : List (List ℕ)) → IsHistory first s.machine → IsLegal first (lines_end n s lines).journal
-legal-lines first n s lines h =
-    lines_end-keeps (IsHistory first) (IsLegal first) (λ m k. k.legal) (history-step first) n s lines h
+pub legal-lines : (files : Files) (first : State) (n : ℕ) (s : ScriptState) (lines : List (List ℕ)) → IsHistory first s.machine → IsLegal first (lines_end files n s lines).journal
+legal-lines files first n s lines h =
+    lines_end-keeps (IsHistory first) (IsLegal first) (λ m k. k.legal) (history-step first) files n s lines h
 
 -- the journal of a script is a legal history from its first state
-legal : (o : Options) (bytes : List ℕ) (files : List ℕ → Option (List ℕ)) (stored : StoredRows) → IsLegal (script_start o) (script_with (Some o) bytes files stored).journal
+legal : (o : Options) (bytes : List ℕ) (files : Files) (stored : StoredRows) → IsLegal (script_start o) (script_with (Some o) bytes files stored).journal
 legal o bytes files stored =
-    elim (ltb SCRIPT_MOST (length bytes)) as (λ b. IsLegal (script_start o) (cond b (no_script TOO_LONG) (lines_end 1 (first_state o) (lines bytes))).journal) [
+    elim (ltb SCRIPT_MOST (length bytes)) as (λ b. IsLegal (script_start o) (cond b (no_script TOO_LONG) (lines_end files 1 (first_state o) (lines bytes))).journal) [
       | true ↦ tt
-      | false ↦ legal-lines (script_start o) 1 (first_state o) (lines bytes) (record { legal = tt; replays = refl })
+      | false ↦ legal-lines files (script_start o) 1 (first_state o) (lines bytes) (record { legal = tt; replays = refl })
     ]
 
 -- the headline, for scripts: what every legal history from sound definitions keeps, a script's does
-pub one_history : (words : List (List ℕ)) (bytes : List ℕ) (files : List ℕ → Option (List ℕ)) (stored : StoredRows) (o : Options) → options_of words ≡ Some o
+pub one_history : (words : List (List ℕ)) (bytes : List ℕ) (files : Files) (stored : StoredRows) (o : Options) → options_of words ≡ Some o
     → IsOneHistory o (script words bytes files stored)
 one_history words bytes files stored o h =
     let d = fresh o.memory o.cores in

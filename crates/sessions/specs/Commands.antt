@@ -1,5 +1,5 @@
 -- The command that a line of a script gives.
-use Rattle.std.specs.Prelude.{ℕ, if◌then◌else◌, nat_lt, length, List, Option, Some, None, option_map, codes}
+use Rattle.std.specs.Prelude.{ℕ, if◌then◌else◌, nat_lt, length, List, [], ◌∷◌, Option, Some, None, option_map, codes}
 use Rattle.std.specs.List.{before_first, after_first}
 use Rattle.std.specs.Option.{option_and_then}
 use Rattle.std.specs.Str.{bytes_eq}
@@ -27,6 +27,8 @@ pub data Command : Type 0 where
   At : (moment : ℕ) → Command
   Sql : (text : List ℕ) → Command
   Open : (session user : Name) → (pool : Option Name) → Command
+  Query : (session : Name) (text : List ℕ) → Command
+  Load : (name : Name) (path : List ℕ) → Command
   Of : (session : Name) → Request → Command
 
 -- what a request and a command of the program are seen as
@@ -41,6 +43,8 @@ abbrev pub seen_command : Told → Command
 seen_command (told.At moment) = At moment.value
 seen_command (told.Sql text) = Sql text.now
 seen_command (told.Open session user pool) = Open session user pool
+seen_command (told.Query session text) = Query session text.now
+seen_command (told.Load name path) = Load name path.now
 seen_command (told.Of session request) = Of session (seen_request request)
 
 -- the verb that a word is, compared as written
@@ -53,7 +57,9 @@ verb_of word =
     else (if bytes_eq word (codes "ask") then Some verb.Ask
     else (if bytes_eq word (codes "poll") then Some verb.Poll
     else (if bytes_eq word (codes "done") then Some verb.Done
-    else (if bytes_eq word (codes "close") then Some verb.Close else None)))))))
+    else (if bytes_eq word (codes "close") then Some verb.Close
+    else (if bytes_eq word (codes "query") then Some verb.Query
+    else (if bytes_eq word (codes "table") then Some verb.Table else None)))))))))
 
 -- what stands before the first space of a line
 abbrev pub first_word : List ℕ → List ℕ
@@ -104,6 +110,23 @@ open_forms None triple = option_and_then user_pool_form triple
 abbrev pub pool_form : List ℕ × List ℕ × List ℕ → Option Command
 pool_form (session, key, pool) = if bytes_eq key (codes "pool") then with_both (λ s p. Of s (SetPool p)) (name_of session) (name_of pool) else None
 
+-- a text without the spaces at its front
+abbrev pub without_spaces : List ℕ → List ℕ
+without_spaces [] = []
+without_spaces (byte ∷ bytes) = if is_space byte then without_spaces bytes else byte ∷ bytes
+
+-- the query of a session: its name, and the text behind the one space that follows it
+abbrev pub query_of : List ℕ → Option (List ℕ) → Option Command
+query_of name text = option_and_then (λ t. option_map (λ s. Query s t) (name_of name)) text
+
+-- `S TEXT`, of what stands behind the first space of the line
+abbrev pub query_form : List ℕ → Option Command
+query_form words = query_of (first_word words) (text_behind words)
+
+-- `NAME PATH`
+abbrev pub table_form : List (List ℕ) → Option Command
+table_form words = option_and_then (λ (name, path). option_map (λ n. Load n path) (name_of name)) (two_behind words)
+
 -- the command of a line that begins with a verb, by the forms that the verb may have behind it
 abbrev pub command_with : Verb → List ℕ → Option Command
 command_with verb.At line = moment_form (line_words line)
@@ -114,6 +137,8 @@ command_with verb.Ask line = floor_form (line_words line)
 command_with verb.Poll line = plain_form Poll (line_words line)
 command_with verb.Done line = plain_form Done (line_words line)
 command_with verb.Close line = plain_form Close (line_words line)
+command_with verb.Query line = option_and_then (λ words. query_form (without_spaces words)) (text_behind line)
+command_with verb.Table line = table_form (line_words line)
 
 -- the command that a line gives, where its first word is a verb and what follows has a form of that verb
 abbrev pub command_of : List ℕ → Option Command

@@ -4,7 +4,7 @@ use Rattle.rm_outside.specs.declared.outside.Outside.{Outside}
 use Rattle.rm_outside.specs.declared.outside.Outside.TheVariants as outside
 use Rattle.sessions.specs.declared.failure.Failure.{Failure}
 use Rattle.sessions.specs.declared.failure.Failure.TheVariants as failure
-use Rattle.sessions.specs.declared.status.TheConstants.{DONE, USAGE, BAD_LINE, READ_FAULT, WRITE_FAULT, NO_MEMORY, TOO_LONG}
+use Rattle.sessions.specs.declared.status.TheConstants.{DONE, USAGE, BAD_LINE, READ_FAULT, WRITE_FAULT, BAD_TABLE, NO_MEMORY, TOO_LONG}
 
 -- why a script fails whose input answers this
 abbrev pub read_failure : Outside → Failure
@@ -22,6 +22,8 @@ status_of (Ok done) = DONE
 status_of (Err failure.Usage) = USAGE
 status_of (Err failure.BadLine) = BAD_LINE
 status_of (Err failure.ReadFault) = READ_FAULT
+status_of (Err failure.ShelfFault) = READ_FAULT
 status_of (Err failure.WriteFault) = WRITE_FAULT
+status_of (Err failure.BadTable) = BAD_TABLE
 status_of (Err failure.Memory) = NO_MEMORY
 status_of (Err failure.TooLong) = TOO_LONG

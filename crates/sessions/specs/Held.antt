@@ -12,14 +12,13 @@ use Rattle.sessions.specs.Granted.{Granted}
 use Rattle.sessions.specs.Host.{Known}
 use Rattle.sessions.specs.Session.{SeesOpen, HoldsGrant}
 use Rattle.sessions.specs.SessionNames.{Named}
-use Rattle.sessions.specs.Texts.{line_text, queued_text}
 
 -- a held session, by its name and its number
 abbrev pub named : Held → Named
 named h = record { name = h.name; session = h.session.number }
 
-abbrev pub names_of : List Held → List Named
-names_of held = map named held
+abbrev pub held_names : List Held → List Named
+held_names held = map named held
 
 -- The session is open, it knows whether its grant is out, and the query runs to which that was given.
 pub record IsHeld (known : Known) (h : Held) : Type 0 where
@@ -44,9 +43,15 @@ printed (Waiting place) = reply.Waiting 0 place
 printed (Ended end) = reply.Ended end
 printed (Refused refusal) = reply.Refused refusal
 
--- two replies print the same, to Submit and else
+-- a reply without the number of the query, which no line prints
+abbrev pub unnumbered : Reply → Reply
+unnumbered (reply.Admitted query pool grant own borrowed) = reply.Admitted 0 pool grant own borrowed
+unnumbered (reply.Waiting query place) = reply.Waiting 0 place
+unnumbered answer = answer
+
+-- two replies differ in the number of the query alone, so they print the same
 abbrev pub PrintsAs : Reply → Reply → Type 0
-PrintsAs a b = (session : Name) → (line_text session a ≡ line_text session b) × (queued_text session a ≡ queued_text session b)
+PrintsAs a b = unnumbered a ≡ unnumbered b
 
 -- the grant that is out after a reply to Submit or Poll, where this one was before
 abbrev pub grant_after : Submitted → Option Granted → Option Granted

@@ -1,3 +1,5 @@
+pub mod AnswerTexts
+pub mod Answered
 pub mod Commands
 pub mod Ended
 pub mod Failures
@@ -9,6 +11,7 @@ pub mod Lines
 pub mod Numbers
 pub mod Options
 pub mod OptionsFacts
+pub mod Plans
 pub mod Running
 pub mod Script
 pub mod Session

@@ -17,10 +17,14 @@ use Rattle.sessions.specs.Options.{options_of}
 use Rattle.sessions.specs.Texts.{bad_text}
 use Rattle.sessions.specs.Turns.{ScriptState, Turn, Bad, Goes, Stops, turn}
 
+-- the files that a script may load, by their paths
+abbrev pub Files : Type 0
+Files = List ℕ → Option (List ℕ)
+
 -- what a line does that gives this command, or none
-abbrev pub command_turn : ScriptState → Option Command → Turn
-command_turn s None = Bad
-command_turn s (Some command) = turn s command
+abbrev pub command_turn : Files → ScriptState → Option Command → Turn
+command_turn files s None = Bad
+command_turn files s (Some command) = turn files s command
 
 -- a line that is empty or begins with `#` prints nothing
 abbrev pub is_comment : List ℕ → Bool
@@ -28,10 +32,10 @@ is_comment [] = true
 is_comment (byte ∷ bytes) = byte == 35
 
 -- what a line does
-abbrev pub line_turn : ScriptState → List ℕ → Turn
-line_turn s line =
+abbrev pub line_turn : Files → ScriptState → List ℕ → Turn
+line_turn files s line =
     if not (is_readable line) then Bad
-    else (if is_comment line then Goes [] s else command_turn s (command_of line))
+    else (if is_comment line then Goes [] s else command_turn files s (command_of line))
 
 -- what a script printed, the status with which it ended, and the machine's journal
 pub record ScriptEnd : Type 0 where
@@ -50,9 +54,9 @@ turn_end number s (Goes text state) next = after_text text (next state)
 turn_end number s (Stops text status state) next = record { text = text; status = status; journal = state.machine.journal }
 
 -- how a script ends that goes on with these lines, the first of which has this number; lines are counted from 1
-abbrev pub lines_end : ℕ → ScriptState → List (List ℕ) → ScriptEnd
-lines_end number s [] = record { text = []; status = DONE; journal = s.machine.journal }
-lines_end number s (line ∷ more) = turn_end number s (line_turn s line) (λ next. lines_end (number + 1) next more)
+abbrev pub lines_end : Files → ℕ → ScriptState → List (List ℕ) → ScriptEnd
+lines_end files number s [] = record { text = []; status = DONE; journal = s.machine.journal }
+lines_end files number s (line ∷ more) = turn_end number s (line_turn files s line) (λ next. lines_end files (number + 1) next more)
 
 -- the machine as a script finds it
 abbrev pub script_start : Options → State
@@ -60,22 +64,22 @@ script_start options = start (fresh options.memory options.cores) SCRIPT_ROOM
 
 -- a script before its first line
 abbrev pub first_state : Options → ScriptState
-first_state options = record { machine = script_start options; names = []; moment = 0 }
+first_state options = record { machine = script_start options; names = []; plans = []; tables = []; moment = 0 }
 
 -- an end before the first line
 abbrev pub no_script : ℕ → ScriptEnd
 no_script status = record { text = []; status = status; journal = [] }
 
--- a script with these options, over these bytes, files and stored rows; the last two are not read yet
-abbrev pub script_with : Option Options → List ℕ → (List ℕ → Option (List ℕ)) → StoredRows → ScriptEnd
+-- a script with these options, over these bytes, files and stored rows; the last are not read yet
+abbrev pub script_with : Option Options → List ℕ → Files → StoredRows → ScriptEnd
 script_with None bytes files stored = no_script USAGE
 script_with (Some options) bytes files stored =
     if nat_lt SCRIPT_MOST (length bytes) then no_script TOO_LONG
-    else lines_end 1 (first_state options) (lines bytes)
+    else lines_end files 1 (first_state options) (lines bytes)
 
 -- what a script prints, and the status with which it ends, by the words of the command line, the bytes of the script, the
 -- files that it may load and the rows that are stored
-abbrev pub script : List (List ℕ) → List ℕ → (List ℕ → Option (List ℕ)) → StoredRows → ScriptEnd
+abbrev pub script : List (List ℕ) → List ℕ → Files → StoredRows → ScriptEnd
 script words bytes files stored = script_with (options_of words) bytes files stored
 
 -- a script's journal is one legal history of the machine; the quantity is conserved at its start and after each of its

@@ -3,7 +3,7 @@ use Rattle.std.specs.Prelude.{◌≡◌, ℕ, ◌+◌, ◌≤◌, List, ◌++◌
 use Rattle.std.specs.Io.KnownBytes.{Appends, Consumes, IsAtEnd}
 use Rattle.rm_base.specs.declared.limits.TheConstants.{SCRIPT_MOST}
 use Rattle.sessions.specs.declared.failure.Failure.{Failure}
-use Rattle.sessions.specs.declared.failure.Failure.TheVariants.{Usage, BadLine, ReadFault, WriteFault, Memory, TooLong}
+use Rattle.sessions.specs.declared.failure.Failure.TheVariants.{Usage, BadLine, ReadFault, ShelfFault, WriteFault, BadTable, Memory, TooLong}
 use Rattle.sessions.specs.World.{Seen, HasFailed}
 
 -- a front of the bytes that were left was read, of at most one byte more than a script may have
@@ -29,7 +29,9 @@ abbrev pub ExplainsInput : Seen (Option (List ℕ)) → Seen (Option (List ℕ))
 ExplainsInput old new Usage = ⊥
 ExplainsInput old new BadLine = ⊥
 ExplainsInput old new ReadFault = HasFailed old new
+ExplainsInput old new ShelfFault = ⊥
 ExplainsInput old new WriteFault = ⊥
+ExplainsInput old new BadTable = ⊥
 ExplainsInput old new Memory = Unit {0}
 ExplainsInput old new TooLong = IsTooLong old.told new.told
 
@@ -45,6 +47,8 @@ abbrev pub ExplainsOutput : Seen (Option (List ℕ)) → Seen (Option (List ℕ)
 ExplainsOutput old new text Usage = ⊥
 ExplainsOutput old new text BadLine = ⊥
 ExplainsOutput old new text ReadFault = ⊥
+ExplainsOutput old new text ShelfFault = ⊥
 ExplainsOutput old new text WriteFault = WroteFront old.told new.told text × HasFailed old new
+ExplainsOutput old new text BadTable = ⊥
 ExplainsOutput old new text Memory = WroteFront old.told new.told text
 ExplainsOutput old new text TooLong = ⊥

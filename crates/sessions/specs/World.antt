@@ -52,19 +52,24 @@ seen_world sources sinks shelves spools keepers input out shelf spool keeper = r
 abbrev pub HasFailed : {A : Type 0} → Seen A → Seen A → Type 0
 HasFailed old new = Rose old.faults new.faults
 
--- no fault was counted; the shelf, the spool and the keeper are not called yet
+-- no fault was counted; the spool and the keeper are not called yet
 pub record CountsNoFault (old new : World) : Type 0 where
   pub input : HasFailed old.input new.input → ⊥
   pub output : HasFailed old.output new.output → ⊥
+  pub shelf : HasFailed old.shelf new.shelf → ⊥
+
+-- what holds of what is told, where it is
+abbrev pub WhereTold : {A : Type 0} → Option A → (A → Type 0) → Type 0
+WhereTold {A} told P = (x : A) → told ≡ Some x → P x
 
 -- this is what is told, or nothing is told
-abbrev pub IsTold : {A : Type 0} → Option A → A → Type 0
-IsTold None x = Unit {0}
-IsTold (Some told) x = x ≡ told
+abbrev pub IsAsTold : {A : Type 0} → Option A → A → Type 0
+IsAsTold None x = Unit {0}
+IsAsTold (Some told) x = x ≡ told
 
 -- what a script is given: the bytes that are left of its input, the files that it may load, and the rows that are
--- stored; of the last two it reads nothing yet, so they may be any where they are not told
+-- stored; of the last it reads nothing yet, so they may be any where they are not told
 pub record IsGiven (world : World) (bytes : List ℕ) (files : List ℕ → Option (List ℕ)) (stored : StoredRows) : Type 0 where
   pub of_input : world.input.told ≡ Some bytes
-  pub of_shelf : IsTold world.shelf.told files
-  pub of_keeper : IsTold world.keeper.told stored
+  pub of_shelf : world.shelf.told ≡ Some files
+  pub of_keeper : IsAsTold world.keeper.told stored

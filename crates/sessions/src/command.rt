@@ -1,7 +1,7 @@
 //! The commands of a script.
 
 ghost use Rattle.std.specs.Prelude.{◌≡◌, map, option_map, IfOk};
-ghost use Rattle.sessions.specs.Commands.{seen_request, seen_command, verb_of, first_word, text_behind, plain_form, moment_form, floor_form, user_form, user_pool_form, open_forms, pool_form, command_with, command_of};
+ghost use Rattle.sessions.specs.Commands.{seen_request, seen_command, verb_of, first_word, text_behind, plain_form, moment_form, floor_form, user_form, user_pool_form, open_forms, pool_form, without_spaces, query_form, table_form, command_with, command_of};
 ghost use Rattle.sessions.specs.Words.{two_behind, three_behind};
 ghost use Rattle.std.specs.Option.{option_and_then};
 
@@ -22,6 +22,16 @@ pub enum Command<'a> {
         session: Name,
         user: Name,
         pool: Option<Name>,
+    },
+    /// `query S TEXT`: the session of this name submits a SELECT.
+    Query {
+        session: Name,
+        text: &'a str,
+    },
+    /// `table NAME PATH`: a table is loaded.
+    Load {
+        name: Name,
+        path: &'a str,
     },
     /// A line that asks something of the session of this name.
     Of(Name, Request),
@@ -53,6 +63,8 @@ pub enum Verb {
     Poll,
     Done,
     Close,
+    Query,
+    Table,
 }
 
 /// The command that a line gives, if it gives one.
@@ -80,6 +92,8 @@ fn read_with(alloc: Global, verb: Verb, line: &str) -> Result<Option<Command<'_>
         Verb::Poll => Ok(plain_form(Request::Poll, &line_words(alloc, line)?)),
         Verb::Done => Ok(plain_form(Request::Done, &line_words(alloc, line)?)),
         Verb::Close => Ok(plain_form(Request::Close, &line_words(alloc, line)?)),
+        Verb::Query => Ok(query_behind(line)),
+        Verb::Table => Ok(table_form(&line_words(alloc, line)?)),
     }
 }
 
@@ -96,6 +110,8 @@ fn verb_of(word: &str) -> Option<Verb>
         "poll" => Some(Verb::Poll),
         "done" => Some(Verb::Done),
         "close" => Some(Verb::Close),
+        "query" => Some(Verb::Query),
+        "table" => Some(Verb::Table),
         _ => None,
     }
 }
@@ -126,6 +142,48 @@ fn plain_form<'a>(request: Request, words: &[&str]) -> Option<Command<'a>>
 {
     let session = one_behind(words)?;
     Some(Command::Of(Name::of(session)?, request))
+}
+
+/// What follows the first space of a line, as `S TEXT`
+fn query_behind(line: &str) -> Option<Command<'_>>
+    ensures { option_map seen_command result ≡ option_and_then (λ words. query_form (without_spaces words)) (text_behind line.now) }
+{
+    match text_behind(line) {
+        Some(words) => query_form(without_spaces(words)),
+        None => None,
+    }
+}
+
+/// A text without the spaces at its front.
+fn without_spaces(text: &str) -> &str
+    ensures { result.now ≡ without_spaces text.now }
+{
+    let mut rest = text;
+    while rest.starts_with(' ') {
+        match rest.split_once(' ') {
+            Some((_, more)) => rest = more,
+            None => return rest,
+        }
+    }
+    rest
+}
+
+/// `S TEXT`
+fn query_form(words: &str) -> Option<Command<'_>>
+    ensures { option_map seen_command result ≡ query_form words.now }
+{
+    let text = text_behind(words)?;
+    let session = Name::of(first_word(words))?;
+    Some(Command::Query { session, text })
+}
+
+/// `NAME PATH`
+fn table_form<'a>(words: &[&'a str]) -> Option<Command<'a>>
+    ensures { option_map seen_command result ≡ table_form (map (λ word. word.now) words.now) }
+{
+    let (name, path) = two_behind(words)?;
+    let name = Name::of(name)?;
+    Some(Command::Load { name, path })
 }
 
 /// `N`

@@ -3,7 +3,9 @@
 ghost use Rattle.std.specs.Prelude.{◌≡◌};
 ghost use Rattle.sessions.specs.Failures.{read_failure, write_failure, status_of};
 
-use crate::status::{BAD_LINE, DONE, NO_MEMORY, READ_FAULT, Status, TOO_LONG, USAGE, WRITE_FAULT};
+use crate::status::{
+    BAD_LINE, BAD_TABLE, DONE, NO_MEMORY, READ_FAULT, Status, TOO_LONG, USAGE, WRITE_FAULT,
+};
 use rm_outside::outside::Outside;
 use std::alloc::AllocError;
 
@@ -13,7 +15,9 @@ pub enum Failure {
     Usage,
     BadLine,
     ReadFault,
+    ShelfFault,
     WriteFault,
+    BadTable,
     Memory,
     TooLong,
 }
@@ -58,7 +62,9 @@ pub fn status_of(ended: Result<(), Failure>) -> Status
         Err(Failure::Usage) => USAGE,
         Err(Failure::BadLine) => BAD_LINE,
         Err(Failure::ReadFault) => READ_FAULT,
+        Err(Failure::ShelfFault) => READ_FAULT,
         Err(Failure::WriteFault) => WRITE_FAULT,
+        Err(Failure::BadTable) => BAD_TABLE,
         Err(Failure::Memory) => NO_MEMORY,
         Err(Failure::TooLong) => TOO_LONG,
     })

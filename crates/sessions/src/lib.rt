@@ -2,8 +2,10 @@
 //! bytes that it writes and the status with which it ends.
 #![tactic(auto)]
 
+mod answer;
 mod command;
 mod comments;
+mod csv_rows;
 mod failure;
 pub mod grant;
 mod held;
@@ -13,6 +15,7 @@ mod lines;
 mod numbers;
 mod options;
 mod output;
+mod plans;
 mod run;
 mod script;
 pub mod script_main;

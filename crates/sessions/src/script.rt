@@ -1,12 +1,13 @@
 //! A script that runs: its machine, the sessions that it has opened there, and its moment.
 
-ghost use Rattle.std.specs.Prelude.{◌≡◌, IfOk};
+ghost use Rattle.std.specs.Prelude.{◌≡◌, ◌≤◌, IfOk};
 ghost use Rattle.rm_base.specs.declared.reply.Reply.TheVariants as reply;
 ghost use Rattle.rm_rules.specs.Acceptance.{is_judged};
-ghost use Rattle.sessions.specs.Turns.{ScriptState, Goes};
+ghost use Rattle.sessions.specs.Turns.{ScriptState, Goes, has_no_place};
 ghost use Rattle.sessions.specs.Running.{seen_turn};
 ghost use Rattle.sessions.specs.Texts.{bare_text};
 
+use crate::answer::{Answer, run_plan};
 use crate::command::{Command, Request, read_command};
 use crate::comments::is_comment;
 use crate::failure::Failure;
@@ -15,11 +16,19 @@ use crate::host::Host;
 use crate::lines::readable;
 use crate::numbers::Number;
 use crate::options::Options;
+use crate::plans::Plans;
 use crate::session::Session;
-use crate::texts::{bare_text, chosen_text, line_text, queued_text};
+use crate::texts::{
+    bare_text, chosen_text, line_text, loaded_text, long_text, missing_text, queued_text,
+    unloaded_text,
+};
+use csv_tables::load_error::LoadError;
+use csv_tables::tables::Tables;
 use machine::desk::Desk;
 use pool_sql::reading::{ReadError, read_statement};
 use pool_table::accept;
+use query_plan::plan::Plan;
+use query_plan::reading::{ReadError as SelectError, read_select};
 use rm_base::definitions::Definitions;
 use rm_base::event::Event;
 use rm_base::limits::SCRIPT_ROOM;
@@ -28,6 +37,8 @@ use rm_base::name::Name;
 use rm_base::refusal::Refusal;
 use rm_base::reply::Reply;
 use rm_base::statement::Statement;
+use rm_outside::shelf::{Shelf, ShelfError};
+use rm_outside::spool::Spool;
 use std::alloc::{AllocError, Global};
 use std::marker::Model;
 
@@ -36,6 +47,8 @@ use std::marker::Model;
 pub struct Script {
     desk: Desk,
     held: Vec<Held>,
+    plans: Plans,
+    tables: Tables,
     moment: Moment,
 }
 
@@ -51,15 +64,17 @@ impl Model for Script {
     ghost invariant = { IsKept };
 }
 
-/// What a line did: it is bad, or it prints a text.
+/// What a line did: it is bad, it prints a text or an answer, or it prints a text and ends the script.
 #[derive(Drop)]
 pub enum Turned {
     Bad,
     Goes(String),
+    Answers(Answer),
+    Stops(String),
 }
 
 impl Script {
-    ghost use Rattle.std.specs.Prelude.{◌≡◌, true, [], Some, IfOk, IfErr, string_bytes};
+    ghost use Rattle.std.specs.Prelude.{◌≡◌, ◌≤◌, true, false, [], Some, Ok, IfOk, IfErr, OnOk, string_bytes};
     ghost use Rattle.rm_base.specs.Ranges.{is_statement_in_range};
     ghost use Rattle.rm_base.specs.WellFormed.{IsWellFormed};
     ghost use Rattle.rm_rules.specs.Step.{step};
@@ -69,9 +84,13 @@ impl Script {
     ghost use Rattle.sessions.specs.Commands.{seen_command, seen_request, SetPool, Ask, Poll, Done, Close};
     ghost use Rattle.sessions.specs.OptionsFacts.{AreWithin};
     ghost use Rattle.sessions.specs.Script.{first_state, line_turn};
-    ghost use Rattle.sessions.specs.Turns.{turn, at_turn, read_turn, statement_turn, open_turn, chosen_turn, after_open, session_turn};
+    ghost use Rattle.csv_tables.specs.Loading.{table_of};
+    ghost use Rattle.query_run.specs.Running.{IsRunnable};
+    ghost use Rattle.sessions.specs.Plans.{plan_of};
+    ghost use Rattle.sessions.specs.Turns.{Goes, turn, at_turn, read_turn, statement_turn, open_turn, chosen_turn, after_open, session_turn, query_turn, query_for, after_submit, after_poll, after_finish, done_text, table_turn, loaded_turn, has_no_place};
+    ghost use Rattle.sessions.specs.World.{WhereTold, seen_shelf};
     ghost use Rattle.sessions.specs.SessionNames.{is_used, place_named, session_named};
-    ghost use Rattle.sessions.specs.Running.{seen_turn, ends_nothing, DoesRequest, IsLineFault};
+    ghost use Rattle.sessions.specs.Running.{seen_turn, ends_nothing, DoesRequest, Makes, IsLineFault, IsCommandFault, IsLoadFault};
 
     /// A script before its first line.
     pub fn new(alloc: Global, options: Options) -> Result<Script, AllocError>
@@ -82,14 +101,25 @@ impl Script {
         Ok(Script {
             desk: Desk::new(alloc, definitions, SCRIPT_ROOM)?,
             held: Vec::new(alloc),
+            plans: Plans::new(alloc),
+            tables: Tables::new(alloc),
             moment: Moment::of(0),
         })
     }
 
     /// Does what a line says.
-    pub fn take_line(&mut self, alloc: Global, line: &[u8]) -> Result<Turned, Failure>
-        ensures turn { IfOk result (λ t. seen_turn t self.new ≡ line_turn self.old line.now) }
-        ensures fault { IfErr result IsLineFault }
+    pub fn take_line<H: Shelf, P: Spool>(
+        &mut self,
+        alloc: Global,
+        shelf: &mut H,
+        spool: &mut P,
+        line: &[u8],
+    ) -> Result<Turned, Failure>
+        ensures turn { IfOk result (λ t. WhereTold (H.files shelf.old) (λ files. seen_turn t self.new ≡ line_turn files self.old line.now)) }
+        ensures fault { IfErr result (IsLineFault line.now (seen_shelf H.Shelf shelf.old) (seen_shelf H.Shelf shelf.new)) }
+        ensures later { H.faults shelf.old ≤ H.faults shelf.new }
+        ensures files { H.files shelf.new ≡ H.files shelf.old }
+        ensures spool { spool.new ≡ spool.old }
     {
         let Some(line) = readable(line) else {
             return Ok(Turned::Bad);
@@ -99,14 +129,23 @@ impl Script {
         }
         match read_command(alloc, line)? {
             None => Ok(Turned::Bad),
-            Some(command) => self.take_command(alloc, command),
+            Some(command) => self.take_command(alloc, shelf, spool, command),
         }
     }
 
     /// Does what a command says.
-    fn take_command(&mut self, alloc: Global, command: Command<'_>) -> Result<Turned, Failure>
-        ensures turn { IfOk result (λ t. seen_turn t self.new ≡ turn self.old (seen_command command.entry)) }
-        ensures fault { IfErr result IsLineFault }
+    fn take_command<H: Shelf, P: Spool>(
+        &mut self,
+        alloc: Global,
+        shelf: &mut H,
+        spool: &mut P,
+        command: Command<'_>,
+    ) -> Result<Turned, Failure>
+        ensures turn { IfOk result (λ t. WhereTold (H.files shelf.old) (λ files. seen_turn t self.new ≡ turn files self.old (seen_command command.entry))) }
+        ensures fault { IfErr result (IsCommandFault (seen_command command.entry) (seen_shelf H.Shelf shelf.old) (seen_shelf H.Shelf shelf.new)) }
+        ensures later { H.faults shelf.old ≤ H.faults shelf.new }
+        ensures files { H.files shelf.new ≡ H.files shelf.old }
+        ensures spool { spool.new ≡ spool.old }
     {
         match command {
             Command::At(moment) => Ok(self.move_to(alloc, moment)),
@@ -116,7 +155,9 @@ impl Script {
                 user,
                 pool,
             } => Ok(self.open(alloc, session, user, pool)?),
-            Command::Of(session, request) => Ok(self.take_request(alloc, session, request)?),
+            Command::Query { session, text } => Ok(self.query(alloc, session, text)?),
+            Command::Load { name, path } => self.load(alloc, shelf, name, path),
+            Command::Of(session, request) => Ok(self.take_request(alloc, spool, session, request)?),
         }
     }
 
@@ -221,25 +262,26 @@ impl Script {
     }
 
     /// Does what a line asks of the session that has a name.
-    fn take_request(
+    fn take_request<P: Spool>(
         &mut self,
         alloc: Global,
+        spool: &mut P,
         session: Name,
         request: Request,
     ) -> Result<Turned, AllocError>
-        ensures { IfOk result (λ t. seen_turn t self.new ≡ session_turn self.old session (seen_request request) (session_named self.old.names session)) }
+        ensures turn { IfOk result (λ t. seen_turn t self.new ≡ session_turn self.old session (seen_request request) (session_named self.old.names session)) }
+        ensures spool { spool.new ≡ spool.old }
     {
         let Some(place) = self.place_of(session) else {
             return Ok(Turned::Bad);
         };
-        let text = match request {
-            Request::SetPool(pool) => self.set_pool(alloc, session, place, pool)?,
-            Request::Ask(floor) => self.ask(alloc, session, place, floor)?,
-            Request::Poll => self.poll(alloc, session, place)?,
-            Request::Done => self.finish(alloc, session, place)?,
-            Request::Close => self.close(alloc, session, place)?,
-        };
-        Ok(Turned::Goes(text))
+        match request {
+            Request::SetPool(pool) => Ok(Turned::Goes(self.set_pool(alloc, session, place, pool)?)),
+            Request::Ask(floor) => Ok(Turned::Goes(self.ask(alloc, session, place, floor)?)),
+            Request::Poll => Ok(Turned::Goes(self.poll(alloc, session, place)?)),
+            Request::Done => self.finish(alloc, spool, session, place),
+            Request::Close => Ok(Turned::Goes(self.close(alloc, session, place)?)),
+        }
     }
 
     /// `set S pool POOL`, where S has this place
@@ -272,8 +314,57 @@ impl Script {
         requires { place_named self.old.names session ≡ Some place }
         ensures { IfOk result (λ text. DoesRequest self.old self.new session (Ask floor) (string_bytes text)) }
     {
-        let reply = self.held[place].ask(&mut self.desk, self.moment, floor);
+        let number = self.number_at(session, place);
+        let reply = self.submit(session, place, number, floor);
         queued_text(alloc, session, reply)
+    }
+
+    /// `query S TEXT`
+    fn query(&mut self, alloc: Global, session: Name, text: &str) -> Result<Turned, AllocError>
+        ensures { IfOk result (λ t. seen_turn t self.new ≡ query_for self.old session text.now (session_named self.old.names session)) }
+    {
+        let Some(place) = self.place_of(session) else {
+            return Ok(Turned::Bad);
+        };
+        let number = self.number_at(session, place);
+        match read_select(alloc, text, self.tables.catalog()) {
+            Ok(plan) => self.submit_plan(alloc, session, place, number, plan),
+            Err(SelectError::Refused(refusal)) => {
+                Ok(Turned::Goes(line_text(alloc, session, Reply::Refused(refusal))?))
+            }
+            Err(SelectError::Memory) => Err(AllocError),
+        }
+    }
+
+    /// Submits a plan, which is kept while its query waits or runs.
+    fn submit_plan(
+        &mut self,
+        alloc: Global,
+        session: Name,
+        place: usize,
+        number: u32,
+        plan: Plan,
+    ) -> Result<Turned, AllocError>
+        requires place { place_named self.old.names session ≡ Some place }
+        requires number { session_named self.old.names session ≡ Some number }
+        requires runnable { IsRunnable plan self.old.tables }
+        ensures { IfOk result (λ t. seen_turn t self.new ≡ query_turn self.old session number (Ok plan)) }
+    {
+        let reply = self.submit(session, place, number, plan.floor());
+        self.keep_plan(number, plan, reply)?;
+        Ok(Turned::Goes(queued_text(alloc, session, reply)?))
+    }
+
+    /// Keeps a plan that was submitted, while its query waits or runs.
+    fn keep_plan(&mut self, number: u32, plan: Plan, reply: Reply) -> Result<(), AllocError>
+        requires { IsRunnable plan self.old.tables }
+        ensures { OnOk result (self.new ≡ after_submit self.old number plan reply) }
+    {
+        match reply {
+            Reply::Admitted { .. } => self.plans.keep(number, plan),
+            Reply::Waiting { .. } => self.plans.keep(number, plan),
+            _ => Ok(()),
+        }
     }
 
     /// `poll S`, where S has this place
@@ -281,17 +372,140 @@ impl Script {
         requires { place_named self.old.names session ≡ Some place }
         ensures { IfOk result (λ text. DoesRequest self.old self.new session Poll (string_bytes text)) }
     {
-        let reply = self.held[place].poll(&mut self.desk, self.moment);
+        let number = self.number_at(session, place);
+        let reply = self.poll_query(session, place, number);
+        self.forget_ended(number, reply);
         line_text(alloc, session, reply)
     }
 
-    /// `done S`, where S has this place
-    fn finish(&mut self, alloc: Global, session: Name, place: usize) -> Result<String, AllocError>
-        requires { place_named self.old.names session ≡ Some place }
-        ensures { IfOk result (λ text. DoesRequest self.old self.new session Done (string_bytes text)) }
+    /// Keeps no plan of a query whose end was told.
+    fn forget_ended(&mut self, number: u32, reply: Reply)
+        ensures { self.new ≡ after_poll self.old number reply }
     {
-        let reply = self.held[place].finish(&mut self.desk, self.moment);
-        line_text(alloc, session, reply)
+        if let Reply::Ended(_) = reply {
+            self.plans.forget(number);
+        }
+    }
+
+    /// `done S`, where S has this place
+    fn finish<P: Spool>(
+        &mut self,
+        alloc: Global,
+        spool: &mut P,
+        session: Name,
+        place: usize,
+    ) -> Result<Turned, AllocError>
+        requires { place_named self.old.names session ≡ Some place }
+        ensures turn { IfOk result (λ t. seen_turn t self.new ≡ session_turn self.old session Done (session_named self.old.names session)) }
+        ensures spool { spool.new ≡ spool.old }
+    {
+        let number = self.number_at(session, place);
+        let reply = self.finish_query(session, place, number);
+        self.done(alloc, spool, session, number, reply)
+    }
+
+    /// What is printed of a query to which Finish had this reply. Where it ran, its plan runs with the bytes that it had.
+    fn done<P: Spool>(
+        &mut self,
+        alloc: Global,
+        spool: &mut P,
+        session: Name,
+        number: u32,
+        reply: Reply,
+    ) -> Result<Turned, AllocError>
+        ensures turn { IfOk result (λ t. seen_turn t self.new
+            ≡ Goes (done_text self.old.tables session (plan_of self.old.plans number) reply) (after_finish self.old number reply)) }
+        ensures spool { spool.new ≡ spool.old }
+    {
+        let Reply::Released(grant) = reply else {
+            return Ok(Turned::Goes(line_text(alloc, session, reply)?));
+        };
+        let Some(plan) = self.plans.take(number) else {
+            return Ok(Turned::Goes(line_text(alloc, session, Reply::Released(grant))?));
+        };
+        let ran = run_plan(alloc, &plan, &self.tables, grant, spool)?;
+        Ok(Turned::Answers(Answer {
+            session,
+            plan,
+            ran,
+            released: grant,
+        }))
+    }
+
+    /// `table NAME PATH`
+    fn load<H: Shelf>(
+        &mut self,
+        alloc: Global,
+        shelf: &mut H,
+        name: Name,
+        path: &str,
+    ) -> Result<Turned, Failure>
+        ensures turn { IfOk result (λ t. WhereTold (H.files shelf.old) (λ files. seen_turn t self.new ≡ table_turn files self.old name path.now)) }
+        ensures fault { IfErr result (IsLoadFault (seen_shelf H.Shelf shelf.old) (seen_shelf H.Shelf shelf.new)) }
+        ensures later { H.faults shelf.old ≤ H.faults shelf.new }
+        ensures files { H.files shelf.new ≡ H.files shelf.old }
+    {
+        if has_no_place(&self.tables, name) {
+            return Ok(Turned::Bad);
+        }
+        match shelf.load(alloc, path) {
+            Ok(bytes) => Ok(self.add_table(alloc, name, &bytes)?),
+            Err(ShelfError::Failed) => Err(Failure::ShelfFault),
+            Err(ShelfError::Missing) => Ok(Turned::Stops(missing_text(alloc, name)?)),
+            Err(ShelfError::TooLong) => Ok(Turned::Stops(long_text(alloc, name)?)),
+            Err(ShelfError::Memory) => Err(Failure::Memory),
+        }
+    }
+
+    /// Adds the table of a file.
+    fn add_table(&mut self, alloc: Global, name: Name, bytes: &[u8]) -> Result<Turned, AllocError>
+        requires { has_no_place self.old.tables name ≡ false }
+        ensures { IfOk result (λ t. seen_turn t self.new ≡ loaded_turn self.old name (table_of bytes.now)) }
+    {
+        match csv_tables::load::load(alloc, bytes) {
+            Ok(table) => {
+                let text = loaded_text(alloc, name, table.rows().len())?;
+                self.tables.add(alloc, name, table)?;
+                Ok(Turned::Goes(text))
+            }
+            Err(LoadError::Memory) => Err(AllocError),
+            Err(fault) => Ok(Turned::Stops(unloaded_text(alloc, name, fault)?)),
+        }
+    }
+
+    /// The number of the session at the place of its name.
+    fn number_at(&self, session: Name, place: usize) -> u32
+        requires { place_named self.now.names session ≡ Some place }
+        ensures { session_named self.now.names session ≡ Some result }
+    {
+        self.held[place].session.number()
+    }
+
+    /// Submits a query of the session at a place.
+    fn submit(&mut self, session: Name, place: usize, number: u32, floor: u64) -> Reply
+        requires place { place_named self.old.names session ≡ Some place }
+        requires number { session_named self.old.names session ≡ Some number }
+        ensures { Makes self.old self.new (Event.Submit number floor) result }
+    {
+        self.held[place].ask(&mut self.desk, self.moment, floor)
+    }
+
+    /// Asks for the query of the session at a place.
+    fn poll_query(&mut self, session: Name, place: usize, number: u32) -> Reply
+        requires place { place_named self.old.names session ≡ Some place }
+        requires number { session_named self.old.names session ≡ Some number }
+        ensures { Makes self.old self.new (Event.Poll number) result }
+    {
+        self.held[place].poll(&mut self.desk, self.moment)
+    }
+
+    /// Ends the query of the session at a place.
+    fn finish_query(&mut self, session: Name, place: usize, number: u32) -> Reply
+        requires place { place_named self.old.names session ≡ Some place }
+        requires number { session_named self.old.names session ≡ Some number }
+        ensures { Makes self.old self.new (Event.Finish number) result }
+    {
+        self.held[place].finish(&mut self.desk, self.moment)
     }
 
     /// `close S`, where S has this place
@@ -300,8 +514,12 @@ impl Script {
         ensures { IfOk result (λ text. DoesRequest self.old self.new session Close (string_bytes text)) }
     {
         let held = self.held.remove(place);
+        let number = held.session.number();
         match held.close(&mut self.desk, self.moment) {
-            Ok(()) => line_text(alloc, session, Reply::Closed),
+            Ok(()) => {
+                self.plans.forget(number);
+                line_text(alloc, session, Reply::Closed)
+            }
             Err((held, refusal)) => {
                 self.held.insert(place, held)?;
                 line_text(alloc, session, Reply::Refused(refusal))
@@ -342,6 +560,13 @@ impl Script {
         let _entries = self.desk.entries();
         self.desk.definitions()
     }
+}
+
+/// Whether there is no place for a table of this name.
+fn has_no_place(tables: &Tables, name: Name) -> bool
+    ensures { result ≡ has_no_place tables.now name }
+{
+    tables.has(name) || tables.is_full()
 }
 
 /// Prints a refusal, and changes nothing.

@@ -3,7 +3,7 @@
 ghost use Rattle.std.specs.Prelude.{◌≡◌, ◌≤◌, None, map, string_bytes};
 ghost use Rattle.sessions.specs.Options.{options_of};
 ghost use Rattle.sessions.specs.Transfers.{ReadFront};
-ghost use Rattle.sessions.specs.World.{World, seen_source, seen_sink, seen_world};
+ghost use Rattle.sessions.specs.World.{World, seen_source, seen_sink, seen_shelf, seen_world};
 ghost use Rattle.sessions.specs.Ended.{EndsAs, IsRun};
 ghost use Rattle.sessions.specs.declared.status.TheConstants.{USAGE};
 
@@ -21,32 +21,36 @@ use rm_outside::spool::Spool;
 use std::alloc::Global;
 
 /// Reads what the words of the command line say, and then the script, whole, and does what its lines say.
-fn run_words<S: Source, O: Sink>(
+fn run_words<S: Source, O: Sink, H: Shelf, P: Spool>(
     alloc: Global,
     words: &[String],
     input: &mut S,
     out: &mut O,
+    shelf: &mut H,
+    spool: &mut P,
 ) -> Result<(), Failure>
     ensures reads { ReadFront (S.left input.old) (S.left input.new) }
     ensures unread { options_of (map string_bytes words.now) ≡ None → input.new ≡ input.old }
 
     // Whatever else the world has.
     ensures ends { (old new : World) → EndsAs (options_of (map string_bytes words.now))
-        (record old { input = seen_source S.Source input.old; output = seen_sink O.Sink out.old })
-        (record new { input = seen_source S.Source input.new; output = seen_sink O.Sink out.new }) result }
+        (record old { input = seen_source S.Source input.old; output = seen_sink O.Sink out.old; shelf = seen_shelf H.Shelf shelf.old })
+        (record new { input = seen_source S.Source input.new; output = seen_sink O.Sink out.new; shelf = seen_shelf H.Shelf shelf.new }) result }
+    ensures files { H.files shelf.new ≡ H.files shelf.old }
+    ensures spool { spool.new ≡ spool.old }
 {
     let Some(options) = options_of(words) else {
         return Err(Failure::Usage);
     };
     let bytes = read_input(alloc, input)?;
     let mut script = Script::new(alloc, options)?;
-    run_lines(alloc, &bytes, &mut script, out)
+    run_lines(alloc, &bytes, &mut script, out, shelf, spool)
 }
 
 /// Does all that `poolhost script` does: reads the words of the command line and the whole input, runs the script's
 /// lines in their order, and writes what each prints.
 ///
-/// It always returns. The shelf, the spool and the keeper are not called yet.
+/// It always returns. The spool and the keeper are not called yet.
 pub fn script_main<S: Source, O: Sink, H: Shelf, P: Spool, K: Keeper>(
     alloc: Global,
     words: &[String],
@@ -63,10 +67,10 @@ pub fn script_main<S: Source, O: Sink, H: Shelf, P: Spool, K: Keeper>(
     // Where the words are none of a script's, nothing is read.
     ensures unread { result.0 ≡ USAGE → input.new ≡ input.old }
 
-    // What is not called yet stays as it was.
-    ensures shelf { shelf.new ≡ shelf.old }
+    // Files stay as they are told, and what is not called yet stays as it was.
+    ensures files { H.files shelf.new ≡ H.files shelf.old }
     ensures spool { spool.new ≡ spool.old }
     ensures keeper { keeper.new ≡ keeper.old }
 {
-    status_of(run_words(alloc, words, input, out))
+    status_of(run_words(alloc, words, input, out, shelf, spool))
 }

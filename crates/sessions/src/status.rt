@@ -9,11 +9,14 @@ pub const USAGE: u8 = 1;
 /// A line of the script is bad.
 pub const BAD_LINE: u8 = 2;
 
-/// The input could not be read.
+/// The input, or a file on the shelf, could not be read.
 pub const READ_FAULT: u8 = 3;
 
 /// The output could not be written.
 pub const WRITE_FAULT: u8 = 4;
+
+/// The file of a table is not there, or has a fault.
+pub const BAD_TABLE: u8 = 5;
 
 /// Memory was wanting.
 pub const NO_MEMORY: u8 = 7;

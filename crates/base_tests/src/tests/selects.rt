@@ -1,4 +1,4 @@
-//! Texts, and the plan that each is over two tables, or how it is refused.
+//! Texts, and the plan that each is over some tables, or how it is refused.
 
 use crate::tests::whole_text;
 use query_plan::plan::Plan;
@@ -13,7 +13,7 @@ use std::process::Abort;
 use std::test::Fail;
 
 /// A text, and its plan as it is shown below, or its refusal. Lines that begin with `#` are headings. The tables are
-/// t, of the Int n and the Text m, and s, of the Ints k and w.
+/// t, of the Int n and the Text m, s, of the Ints k and w, and r, of the Int k and the Text n.
 static CASES: &str = "\
 # select lists
 SELECT * FROM t => 1048576 n=0 m=1
@@ -50,10 +50,40 @@ SELECT n, FROM t => refused 1 10
 SELECT n m FROM t => refused 1 9
 SELECT n AS FROM t => refused 1 12
 SELECT n. FROM t => refused 1 10
-SELECT COUNT(*) FROM t => refused 1 7
+SELECT COUNT FROM t => refused 1 13
+SELECT COUNT() FROM t => refused 1 13
+SELECT COUNT(*, n) FROM t => refused 1 14
+SELECT SUM(*) FROM t => refused 1 11
+SELECT SUM(1) FROM t => refused 1 11
+SELECT MAX(n FROM t => refused 1 13
+SELECT MIN(t.) FROM t => refused 1 13
+SELECT SUM(n) total FROM t => refused 1 14
+SELECT n AS sum FROM t => refused 1 12
+SELECT COUNT(*) FROM t ORDER BY count => refused 1 32
 SELECT n FROM t, s => refused 1 15
-SELECT n FROM t JOIN s ON n = k => refused 1 16
-SELECT n FROM t GROUP BY n => refused 1 16
+SELECT n FROM t JOIN => refused 1 20
+SELECT n FROM t JOIN s => refused 1 22
+SELECT n FROM t JOIN s WHERE n = k => refused 1 23
+SELECT n FROM t JOIN s ON n => refused 1 27
+SELECT n FROM t JOIN s ON n = k JOIN => refused 1 36
+SELECT n FROM t JOIN s ON n = k ON n = k => refused 1 32
+SELECT n FROM t ON n = 1 => refused 1 16
+SELECT n FROM t WHERE n = 1 JOIN s ON n = k => refused 1 28
+SELECT n FROM t LEFT JOIN s ON n = k => refused 1 16
+SELECT n FROM t WHERE n = 1 WHERE n = 2 => refused 1 28
+SELECT n FROM t GROUP n => refused 1 22
+SELECT n FROM t GROUP BY => refused 1 24
+SELECT n FROM t GROUP BY 1 => refused 1 25
+SELECT n FROM t GROUP BY n m => refused 1 27
+SELECT n FROM t GROUP BY n, => refused 1 27
+SELECT n FROM t ORDER BY n GROUP BY n => refused 1 27
+SELECT n FROM t GROUP BY n GROUP BY n => refused 1 27
+SELECT n FROM t GROUP BY n WHERE n = 1 => refused 1 27
+SELECT COUNT(*), COUNT(*) FROM t ORDER BY 3 => refused 1 42
+SELECT * FROM t JOIN s ON n = k ORDER BY 5 => refused 1 41
+SELECT * FROM t JOIN u ON 1 = 1 ORDER BY 0 => refused 1 41
+SELECT n FROM t JOIN s ON 1 = 1 JOIN r ON 1 = 1 JOIN t x ON 1 = => refused 1 63
+SELECT * FROM t JOIN s ON 1 = 1 JOIN r ON 1 = 1 JOIN t x ON 1 = 1 ORDER BY 9 => refused 1 75
 SELECT n FROM t u v => refused 1 18
 SELECT n FROM t WHERE n => refused 1 23
 SELECT n FROM t WHERE n = => refused 1 25
@@ -67,6 +97,71 @@ SELECT n FROM t;; => refused 1 16
 SELECT n FROM t WHERE m = 'x => refused 1 26
 SELECT n FROM t ? => refused 1 16
 SELECT n FROM t WHERE n ! 1 => refused 1 24
+# joins
+SELECT * FROM t JOIN s ON n = k => 1310720 n=0 m=1 k=2 w=3 #0=#2
+SELECT w FROM t JOIN s ON t.n = s.k WHERE m = 'x' => 1310720 w=3 #0=#2 #1='x'
+select a.n, b.n as o from t a join t as b on b.n > a.n and a.m = b.m => 1310720 n=0 o=2 #2>#0 #1=#3
+SELECT s.k, r.k FROM s JOIN r ON s.k = r.k JOIN t ON t.m = r.n => 1572864 k=0 k=2 #0=#2 #5=#3
+SELECT w FROM t JOIN s ON n = k JOIN r ON w = r.k WHERE r.n = m AND w > 1 => 1572864 w=3 #0=#2 #3=#4 #5=#1 #3>1
+SELECT k FROM t JOIN s ON n = k JOIN r x ON x.n = 'a' GROUP BY w => refused 28 k
+SELECT w FROM t JOIN s ON n = k ORDER BY w DESC LIMIT 3 => 1310720 w=3 #0=#2 desc 0 limit 3
+SELECT * FROM t JOIN s ON n = k ORDER BY 4 => 1310720 n=0 m=1 k=2 w=3 #0=#2 asc 3
+# groups
+SELECT COUNT(*) FROM t => 1048576 count=rows groups
+SELECT count ( * ) AS c, SUM(n), min(m), Max(t.m) AS b, COUNT(m) FROM t => 1048576 c=rows sum=sum(0) min=min(1) b=max(1) count=count(1) groups
+SELECT n FROM t GROUP BY n => 1048576 n=0 groups 0
+SELECT m, COUNT(*) FROM t GROUP BY m, n => 1048576 m=1 count=rows groups 1 0
+SELECT COUNT(*) FROM t GROUP BY n, n => 1048576 count=rows groups 0 0
+SELECT n AS a, SUM(n) FROM t WHERE n > 0 GROUP BY t.n ORDER BY 2 DESC, a LIMIT 5; => 1048576 a=0 sum=sum(0) #0>0 groups 0 desc 1 asc 0 limit 5
+SELECT w, SUM(n) FROM t JOIN s ON n = k GROUP BY w => 1310720 w=3 sum=sum(0) #0=#2 groups 3
+SELECT x.k, MAX(y.n) FROM s x JOIN r y ON x.k = y.k GROUP BY x.k => 1310720 k=0 max=max(3) #0=#2 groups 0
+# plain columns among groups
+SELECT * FROM t GROUP BY n, m => refused 30 7
+SELECT n, COUNT(*) FROM t => refused 30 7
+SELECT COUNT(*), n FROM t => refused 30 17
+SELECT n, m FROM t GROUP BY n => refused 30 10
+SELECT n, m AS n FROM t GROUP BY n => refused 30 10
+SELECT s.k FROM s JOIN r ON s.k = r.k GROUP BY r.k => refused 30 7
+SELECT n FROM t GROUP BY z => refused 30 7
+SELECT n, z FROM t GROUP BY m => refused 30 7
+SELECT z, n FROM t GROUP BY m => refused 27 z
+SELECT m, SUM(m) FROM t => refused 30 7
+SELECT SUM(m), m FROM t => refused 29 7
+SELECT COUNT(*), SUM(m) FROM t => refused 29 17
+SELECT SUM(m) AS n FROM t WHERE z = 1 => refused 29 7
+SELECT SUM(z) FROM t => refused 27 z
+SELECT COUNT(*) FROM t GROUP BY z => refused 27 z
+SELECT COUNT(*) FROM t WHERE n = m GROUP BY z => refused 29 31
+SELECT COUNT(*) FROM t GROUP BY z ORDER BY z => refused 27 z
+SELECT n, n FROM t GROUP BY n ORDER BY n => refused 28 n
+SELECT COUNT(k) FROM s JOIN r ON w = 1 => refused 28 k
+SELECT COUNT(*) FROM s JOIN r ON w = 1 GROUP BY k => refused 28 k
+# tables that are joined, and what their comparisons may name
+SELECT k FROM s JOIN r ON s.k = r.k => refused 28 k
+SELECT w FROM s JOIN r ON k = 1 => refused 28 k
+SELECT w FROM s JOIN r ON w = 1 WHERE k = 1 => refused 28 k
+SELECT w FROM s JOIN t ON k = n JOIN r ON w = 1 => 1572864 w=1 #0=#2 #1=1
+SELECT w FROM s JOIN t ON r.k = n JOIN r ON w = 1 => refused 27 r
+SELECT w FROM s JOIN r ON m = 'x' JOIN t ON w = 1 => refused 27 m
+SELECT w FROM s JOIN s ON 1 = 1 => refused 28 w
+SELECT s.w FROM s JOIN s ON w = 1 => refused 28 s
+SELECT s.w FROM s JOIN s ON z = 1 => refused 28 s
+SELECT z FROM s JOIN s ON w = 1 => refused 27 z
+SELECT s.z FROM s JOIN s ON w = 1 => refused 27 z
+SELECT s.m FROM s JOIN t s ON w = 1 => refused 28 s
+SELECT w FROM s JOIN r s ON w = 1 => refused 28 s
+SELECT w FROM s JOIN t ON z = 1 JOIN r s ON w = 1 => refused 27 z
+SELECT w FROM s JOIN t ON n = m JOIN r t ON w = 1 => refused 29 28
+SELECT w FROM s JOIN t ON n = 1 JOIN r t ON n = m => refused 28 t
+SELECT w FROM s JOIN t ON s.w = m => refused 29 30
+SELECT COUNT(*) FROM s a JOIN s b ON a.k = b.k JOIN s c ON c.k = b.k => 1572864 count=rows #0=#2 #4=#2 groups
+# too many tables
+SELECT z FROM t JOIN s ON 1 = 1 JOIN r ON 1 = 1 JOIN t x ON 1 = 1 => refused 31 3
+SELECT z FROM t JOIN u ON 1 = 1 JOIN r ON 1 = 1 JOIN t ON 1 = 1 JOIN s ON 1 = 1; => refused 31 3
+SELECT * FROM t JOIN s ON 1 = 1 JOIN r ON 1 = 1 JOIN t x ON 1 = 1 ORDER BY 8 => refused 31 3
+SELECT z FROM t JOIN u ON z = 1 JOIN v ON 1 = 1 => refused 26 u
+SELECT z FROM u JOIN v ON 1 = 1 => refused 26 u
+SELECT w FROM s JOIN s ON z = 1 JOIN u ON 1 = 1 => refused 26 u
 # numbers
 SELECT n FROM t WHERE n = 9223372036854775808 => refused 1 26
 SELECT n FROM t WHERE n = - 9223372036854775809 => refused 1 28
@@ -100,7 +195,9 @@ SELECT n FROM t WHERE m < n ORDER BY z => refused 29 24
 static LISTS: &str = "\
 32 SELECT |n|, | FROM t
 32 SELECT n FROM t WHERE |n = 1| AND |
+32 SELECT n FROM t JOIN s ON |n = k| AND |
 16 SELECT * FROM t ORDER BY |n|, |
+16 SELECT COUNT(*) FROM t GROUP BY |n|, |
 ";
 
 fn column(name: &str, kind: ColumnKind) -> Result<CatalogColumn, Fail> {
@@ -123,7 +220,7 @@ fn add_table(
     Ok(())
 }
 
-fn two_tables(alloc: Global) -> Result<Catalog, Fail> {
+fn some_tables(alloc: Global) -> Result<Catalog, Fail> {
     let mut catalog = Catalog::new(alloc);
     let n = column("n", ColumnKind::Int)?;
     let m = column("m", ColumnKind::Words)?;
@@ -131,6 +228,8 @@ fn two_tables(alloc: Global) -> Result<Catalog, Fail> {
     let k = column("k", ColumnKind::Int)?;
     let w = column("w", ColumnKind::Int)?;
     add_table(alloc, &mut catalog, "s", k, w)?;
+    let n = column("n", ColumnKind::Words)?;
+    add_table(alloc, &mut catalog, "r", k, n)?;
     Ok(catalog)
 }
 
@@ -165,9 +264,11 @@ fn push_columns(alloc: Global, shown: &mut String, plan: &Plan) -> Result<(), Al
         let name = name.as_str();
         let text = match item {
             Item::Column(column) => format!(in alloc; " {name}={column}")?,
-            Item::CountAll | Item::Count(_) | Item::Sum(_) | Item::Min(_) | Item::Max(_) => {
-                format!(in alloc; " {name}=aggregate")?
-            }
+            Item::CountAll => format!(in alloc; " {name}=rows")?,
+            Item::Count(column) => format!(in alloc; " {name}=count({column})")?,
+            Item::Sum(column) => format!(in alloc; " {name}=sum({column})")?,
+            Item::Min(column) => format!(in alloc; " {name}=min({column})")?,
+            Item::Max(column) => format!(in alloc; " {name}=max({column})")?,
         };
         shown.push_str(text.as_str())?;
     }
@@ -180,6 +281,18 @@ fn push_tests(alloc: Global, shown: &mut String, plan: &Plan) -> Result<(), Allo
         push_operand(alloc, shown, &test.left)?;
         shown.push_str(op_text(test.op))?;
         push_operand(alloc, shown, &test.right)?;
+    }
+    Ok(())
+}
+
+/// The columns of GROUP BY, where there are groups.
+fn push_groups(alloc: Global, shown: &mut String, plan: &Plan) -> Result<(), AllocError> {
+    let Some(groups) = &plan.select().groups else {
+        return Ok(());
+    };
+    shown.push_str(" groups")?;
+    for column in groups.as_slice() {
+        shown.push_str(format!(in alloc; " {column}")?.as_str())?;
     }
     Ok(())
 }
@@ -201,12 +314,13 @@ fn push_order(alloc: Global, shown: &mut String, plan: &Plan) -> Result<(), Allo
     Ok(())
 }
 
-/// The floor of a plan, its columns, its comparisons, and its order.
+/// The floor of a plan, its columns, its comparisons, its groups, and its order.
 fn shown(alloc: Global, plan: &Plan) -> Result<String, AllocError> {
     let floor = plan.floor();
     let mut shown = format!(in alloc; "{floor}")?;
     push_columns(alloc, &mut shown, plan)?;
     push_tests(alloc, &mut shown, plan)?;
+    push_groups(alloc, &mut shown, plan)?;
     push_order(alloc, &mut shown, plan)?;
     Ok(shown)
 }
@@ -235,7 +349,7 @@ fn check_text(
 #[test]
 fn texts_are_plans_or_refused(rt: HostRuntime) -> Result<(), Fail> {
     let alloc = rt.alloc();
-    let catalog = two_tables(alloc)?;
+    let catalog = some_tables(alloc)?;
     for case in CASES.lines() {
         if !case.starts_with('#') {
             let (text, expected) = case.rsplit_once(" => ").ok_or("no =>")?;
@@ -279,7 +393,7 @@ fn check_list(rt: &impl Abort, alloc: Global, catalog: &Catalog, line: &str) -> 
 
 #[test]
 fn lists_are_as_long_as_they_may_be(rt: HostRuntime) -> Result<(), Fail> {
-    let catalog = two_tables(rt.alloc())?;
+    let catalog = some_tables(rt.alloc())?;
     for line in LISTS.lines() {
         check_list(&rt, rt.alloc(), &catalog, line)?;
     }

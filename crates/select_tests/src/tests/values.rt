@@ -13,14 +13,15 @@ use std::test::Fail;
 /// Values in their order: `NULL`, numbers, and texts behind `'`.
 static ORDER: &str = "NULL -9223372036854775808 -1 0 9 10 ' '10 '9 'A 'a 'ab 'b 'é";
 
-fn value_of(alloc: Global, word: &str) -> Result<Value, AllocError> {
+pub fn value_of(alloc: Global, word: &str) -> Result<Value, AllocError> {
     match word.strip_prefix('\'') {
         Some(text) => Ok(Value::Words(Text::of(String::from_str(alloc, text)?))),
         None => Ok(word.parse().map_or(Value::Null, Value::Int)),
     }
 }
 
-fn row_of(alloc: Global, words: &str) -> Result<Row, AllocError> {
+/// A row of these words, parted by spaces.
+pub fn row_of(alloc: Global, words: &str) -> Result<Row, AllocError> {
     let mut values = Vec::new(alloc);
     for word in words.split(' ') {
         values.push(value_of(alloc, word)?)?;

@@ -1,8 +1,8 @@
 use Rattle.std.proofs.Common.{◌≡◌, drop}
-use Rattle.query_plan.specs.Resolving.{each, test_of}
+use Rattle.query_plan.specs.Resolving.{each, condition_of}
 use Rattle.query_plan.proofs.Eaches.{onto}
 use Rattle.query_plan.proofs.resolving.tests_of.Given as goal
 
-abbrev pub invariant-loop-test : goal.invariant-loop-test
-invariant-loop-test l =
-    onto l.out (each (test_of l.tables l.scope) (drop l.test-index l.tests)) ≡ each (test_of l.tables l.scope) l.tests
+abbrev pub invariant-loop-condition : goal.invariant-loop-condition
+invariant-loop-condition l =
+    onto l.out (each (condition_of l.tables l.scope) (drop l.condition-index l.conditions)) ≡ each (condition_of l.tables l.scope) l.conditions

@@ -1,15 +1,15 @@
-use Rattle.std.proofs.Common.{◌≡◌, ◌-◌, ◌≤◌, ◌++◌, None, length, drop}
+use Rattle.std.proofs.Common.{◌≡◌, ◌≤◌, None, filter, take}
+use Rattle.rm_base.specs.Values.{rows_measure}
 use Rattle.rm_outside.specs.Faults.{counted}
-use Rattle.rm_rules.specs.Ordering.{in_order}
-use Rattle.query_run.specs.Running.{answer_rows}
+use Rattle.rm_rules.specs.Comparing.{all_true}
+use Rattle.query_run.specs.Gathering.{Gathers}
 use Rattle.query_run.proofs.scan.scan.Given as goal
 
-abbrev pub invariant-loop-at : goal.invariant-loop-at
-invariant-loop-at g l =
-    (in_order l.select.order (l.kept.items ++ answer_rows l.select (drop l.at l.rows)) ≡ in_order l.select.order (answer_rows l.select l.rows))
-    × (l.at ≤ length l.rows)
-    × (g.W.Watch.stop l.watch ≡ None)
-    × (counted (g.W.Watch.handed l.initial.watch) l.at ≤ g.W.Watch.handed l.watch)
-
-abbrev pub decreases-loop-at : goal.decreases-loop-at
-decreases-loop-at g l = length l.rows - l.at
+abbrev pub invariant-loop-row : goal.invariant-loop-row
+invariant-loop-row g l = record {
+  gathers : Gathers l.select l.room (filter (all_true l.select.tests) (take l.row-index l.rows)) l.gathering;
+  charge : l.charge ≡ rows_measure (filter (all_true l.select.tests) (take l.row-index l.rows));
+  fits : l.charge ≤ l.room;
+  going : g.W.Watch.stop l.watch ≡ None;
+  handed : counted (g.W.Watch.handed l.initial.watch) l.row-index ≤ counted (g.W.Watch.handed l.watch) l.pace;
+}

@@ -9,7 +9,7 @@ returns-clause-run g c =
     let words = map string_bytes c.args.words.now in
     let world = seen_world g.S.Source g.O.Sink g.H.Shelf g.P.Spool g.K.Keeper in
     let old = world c.args.input.now c.args.out.now c.args.shelf.now c.args.spool.now c.args.keeper.now in
-    let new = world c.run_words.new.input c.run_words.new.out c.args.shelf.now c.args.spool.now c.args.keeper.now in
+    let new = world c.run_words.new.input c.run_words.new.out c.run_words.new.shelf c.run_words.new.spool c.args.keeper.now in
     subst (λ (status : ℕ). IsRun words old new status) (sym c.status_of.ensures) (is_run words old new c.run_words.result (c.run_words.ensures.ends old new) c.run_words.ensures.reads)
 
 pub returns-clause-unread : goal.returns-clause-unread
@@ -17,5 +17,5 @@ returns-clause-unread g c =
     let words = map string_bytes c.args.words.now in
     let world = seen_world g.S.Source g.O.Sink g.H.Shelf g.P.Spool g.K.Keeper in
     let old = world c.args.input.now c.args.out.now c.args.shelf.now c.args.spool.now c.args.keeper.now in
-    let new = world c.run_words.new.input c.run_words.new.out c.args.shelf.now c.args.spool.now c.args.keeper.now in
+    let new = world c.run_words.new.input c.run_words.new.out c.run_words.new.shelf c.run_words.new.spool c.args.keeper.now in
     λ usage. c.run_words.ensures.unread ((is_run words old new c.run_words.result (c.run_words.ensures.ends old new) c.run_words.ensures.reads).usage.0 (sym c.status_of.ensures ∙ usage))

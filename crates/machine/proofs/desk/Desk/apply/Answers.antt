@@ -1,14 +1,14 @@
 use Rattle.std.proofs.Common.{sym, subst, ap, ◌∙◌}
 use Rattle.rm_rules.specs.State.{State}
 use Rattle.rm_rules.specs.Step.{step}
-use Rattle.machine.specs.Desk.{DeskState, IsKept}
+use Rattle.machine.specs.Desk.{DeskState, IsLegalDesk}
 use Rattle.machine.proofs.Keeping.{kept-step}
 use Rattle.machine.proofs.desk.Desk.apply.Goals as goal
 
 pub invariant_of-self : goal.invariant_of-self
 invariant_of-self c =
     let after = kept-step (record { first = c.self.inside.first; state = c.self.inside.machine }) c.args.seat c.args.at c.args.event.now c.requires.formed c.self.invariant in
-    subst (λ (s : State). IsKept (record { first = c.self.inside.first; state = s })) (sym c.apply.ensures.state) after
+    subst (λ (s : State). IsLegalDesk (record { first = c.self.inside.first; state = s })) (sym c.apply.ensures.state) after
 
 pub returns-clause-state : goal.returns-clause-state
 returns-clause-state c =

@@ -3,7 +3,7 @@ use Rattle.rm_base.specs.declared.entry.EndCounts.{EndCounts}
 use Rattle.rm_base.specs.declared.rows.PoolRow.{PoolRow}
 use Rattle.rm_rules.specs.State.{State}
 use Rattle.rm_rules.specs.Acceptance.{accepted}
-use Rattle.machine.specs.Inside.{seen}
+use Rattle.machine.specs.Inside.{seen_state}
 use Rattle.machine.proofs.Inside.{sound_inside, sized_inside, name_inside}
 use Rattle.machine.proofs.Defining.{added, altered, reserves-count, bytes-added, bytes-altered, state-added, state-altered}
 use Rattle.machine.proofs.machine.Machine.apply_statement.Goals as goal
@@ -21,7 +21,7 @@ add_pool-requires-clause-absent c =
     let sized = sized_inside m c.args.self.now c.self.view_is c.requires.sized in
     let row = get_or c.rows-rows.result.now c.len-pools.result c.index-rows-pools.result in
     let h = added m.definitions c.apply.new.definitions c.args.statement.now c.index-rows-pools.result c.len-pools.result c.rows-rows.result.now sound c.requires.judged c.apply.ensures.changed c.len-pools.ensures.value c.rows-rows.ensures.rows c.if-pools-rows.true in
-    name_inside m (seen m) row.name refl c.self.invariant sound sized ∙ h.absent
+    name_inside m (seen_state m) row.name refl c.self.invariant sound sized ∙ h.absent
 
 pub add_pool-requires-clause-room : goal.add_pool-requires-clause-room
 add_pool-requires-clause-room c =

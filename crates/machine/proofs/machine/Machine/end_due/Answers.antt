@@ -1,8 +1,8 @@
 use Rattle.std.proofs.Common.{◌∙◌, ap, sym, refl, arith, Option}
 use Rattle.std.specs.Option.{is_some}
 use Rattle.rm_rules.specs.declared.state.Waiter.{Waiter}
-use Rattle.rm_rules.proofs.Settling.{due-among}
-use Rattle.machine.proofs.Settling.{may-leave, fewer-due, ends-due, none-due}
+use Rattle.rm_rules.proofs.Settling.{due-among, none-due}
+use Rattle.machine.proofs.Settling.{may-leave, fewer-due, ends-due}
 use Rattle.machine.proofs.machine.Machine.end_due.Goals as goal
 
 pub loop-w-init : goal.loop-w-init

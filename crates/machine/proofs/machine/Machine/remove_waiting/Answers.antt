@@ -3,7 +3,7 @@ use Rattle.rm_rules.specs.declared.state.Waiter.{Waiter}
 use Rattle.rm_rules.specs.State.{State}
 use Rattle.rm_rules.specs.Answers.{waiter_of}
 use Rattle.pool_queue.specs.Queue.{has_query}
-use Rattle.machine.specs.Inside.{seen}
+use Rattle.machine.specs.Inside.{seen_state}
 use Rattle.machine.proofs.Settling.{session-may-leave, session-left, none-left}
 use Rattle.machine.proofs.machine.Machine.remove_waiting.Goals as goal
 
@@ -22,7 +22,7 @@ returns-in-Some c =
     let s = c.args.self.now in
     let items = c.waiters.ensures.items ∙ ap (λ (t : State). t.waiting) c.self.view_is in
     let found : waiter_of s.waiting c.args.session ≡ Some c.in-Some.w = ap (λ (l : List Waiter). waiter_of l c.args.session) (sym items) ∙ sym c.waiter_of.ensures ∙ c.in-Some.is in
-    session-left s (seen c.self.inside) c.args.session c.in-Some.w c.leave.new.self c.self.view_is c.requires.in_phase c.requires.numbered found c.leave.ensures.items
+    session-left s (seen_state c.self.inside) c.args.session c.in-Some.w c.leave.new.self c.self.view_is c.requires.in_phase c.requires.numbered found c.leave.ensures.items
 
 pub returns-in_default : goal.returns-in_default
 returns-in_default c =

@@ -1,39 +1,21 @@
-use Rattle.std.proofs.Common.{refl, ap}
+use Rattle.std.proofs.Common.{refl}
 use Rattle.std.proofs.lemmas.Result.{IfOk-weaker}
 use Rattle.std.specs.Prelude.{string_bytes}
-use Rattle.rm_base.specs.declared.event.Event.{Event}
 use Rattle.rm_base.specs.declared.event.Event.TheVariants as event
+use Rattle.rm_rules.specs.Step.{step}
 use Rattle.sessions.specs.Commands as request
-use Rattle.sessions.specs.Host.{desk_known}
 use Rattle.sessions.specs.Texts.{queued_text}
-use Rattle.sessions.specs.Turns.{ScriptState}
-use Rattle.sessions.proofs.HeldLaws.{found-at, held-at, placed-held, unending}
-use Rattle.sessions.proofs.TurnLemmas.{request-done}
+use Rattle.sessions.proofs.PrintLemmas.{queued-shown}
+use Rattle.sessions.proofs.TurnLemmas.{does-request}
 use Rattle.sessions.proofs.script.Script.ask.Goals as goal
-
-pub ask-reply-requires : goal.ask-reply-requires
-ask-reply-requires c =
-    let hs = c.self.inside.held.items in
-    let x = c.index_mut.result.now in
-    let there = found-at hs c.args.self.now.names c.args.session c.args.place x (ap (λ (s : ScriptState). s.names) c.self.view_is) c.requires c.index_mut.ensures.value in
-    held-at (desk_known c.self.inside.desk) hs c.args.place x there.within c.index_mut.ensures.value c.self.invariant
-
-pub invariant_of-self : goal.invariant_of-self
-invariant_of-self c =
-    let hs = c.self.inside.held.items in
-    let x = c.index_mut.result.now in
-    let e : Event = event.Submit x.session.number c.args.floor in
-    let there = found-at hs c.args.self.now.names c.args.session c.args.place x (ap (λ (s : ScriptState). s.names) c.self.view_is) c.requires c.index_mut.ensures.value in
-    let call = c.ask-reply.ensures.call in
-    placed-held (desk_known c.self.inside.desk) (desk_known c.ask-reply.new.desk) c.self.inside.moment e call.0 hs c.args.place x c.ask-reply.new.self there.within c.index_mut.ensures.value call.1 tt
-    (unending x.session.number e refl) c.ask-reply.ensures.named c.ask-reply.ensures.held c.self.invariant
 
 pub returns : goal.returns
 returns c =
-    let x = c.index_mut.result.now in
-    let e : Event = event.Submit x.session.number c.args.floor in
-    let call = c.ask-reply.ensures.call in
+    let s = c.args.self.now in
+    let n = c.number_at-number.result in
+    let e = event.Submit n c.args.floor in
+    let o = step s.machine 0 s.moment e in
     IfOk-weaker c.queued_text.result _ _
-    (λ text is. request-done c.self.inside.desk c.ask-reply.new.desk c.self.inside.held.items c.self.inside.moment c.args.self.now c.args.session c.args.place x c.ask-reply.new.self (request.Ask c.args.floor) e
-    (queued_text c.args.session) c.ask-reply.result call.0 c.self.view_is c.requires c.index_mut.ensures.value c.ask-reply.ensures.named call.1 refl ((call.2 c.args.session).1) (string_bytes text) is)
+    (λ text is. does-request s c.submit-reply.new.self c.args.session n (request.Ask c.args.floor) e (queued_text c.args.session) c.submit-reply.result (string_bytes text) c.number_at-number.ensures refl
+    c.submit-reply.ensures.state (queued-shown c.args.session c.submit-reply.result o.reply c.submit-reply.ensures.reply) is)
     c.queued_text.ensures

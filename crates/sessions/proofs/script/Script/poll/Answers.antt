@@ -1,39 +1,21 @@
-use Rattle.std.proofs.Common.{refl, ap}
 use Rattle.std.proofs.lemmas.Result.{IfOk-weaker}
 use Rattle.std.specs.Prelude.{string_bytes}
-use Rattle.rm_base.specs.declared.event.Event.{Event}
 use Rattle.rm_base.specs.declared.event.Event.TheVariants as event
 use Rattle.sessions.specs.Commands as request
-use Rattle.sessions.specs.Host.{desk_known}
 use Rattle.sessions.specs.Texts.{line_text}
-use Rattle.sessions.specs.Turns.{ScriptState}
-use Rattle.sessions.proofs.HeldLaws.{found-at, held-at, placed-held, unending}
-use Rattle.sessions.proofs.TurnLemmas.{request-done}
+use Rattle.sessions.specs.Turns.{after_poll}
+use Rattle.sessions.proofs.PrintLemmas.{line-shown, poll-shown}
+use Rattle.sessions.proofs.TurnLemmas.{made-turn, requested}
 use Rattle.sessions.proofs.script.Script.poll.Goals as goal
-
-pub poll-reply-requires : goal.poll-reply-requires
-poll-reply-requires c =
-    let hs = c.self.inside.held.items in
-    let x = c.index_mut.result.now in
-    let there = found-at hs c.args.self.now.names c.args.session c.args.place x (ap (λ (s : ScriptState). s.names) c.self.view_is) c.requires c.index_mut.ensures.value in
-    held-at (desk_known c.self.inside.desk) hs c.args.place x there.within c.index_mut.ensures.value c.self.invariant
-
-pub invariant_of-self : goal.invariant_of-self
-invariant_of-self c =
-    let hs = c.self.inside.held.items in
-    let x = c.index_mut.result.now in
-    let e : Event = event.Poll x.session.number in
-    let there = found-at hs c.args.self.now.names c.args.session c.args.place x (ap (λ (s : ScriptState). s.names) c.self.view_is) c.requires c.index_mut.ensures.value in
-    let call = c.poll-reply.ensures.call in
-    placed-held (desk_known c.self.inside.desk) (desk_known c.poll-reply.new.desk) c.self.inside.moment e call.0 hs c.args.place x c.poll-reply.new.self there.within c.index_mut.ensures.value call.1 tt
-    (unending x.session.number e refl) c.poll-reply.ensures.named c.poll-reply.ensures.held c.self.invariant
 
 pub returns : goal.returns
 returns c =
-    let x = c.index_mut.result.now in
-    let e : Event = event.Poll x.session.number in
-    let call = c.poll-reply.ensures.call in
+    let s = c.args.self.now in
+    let n = c.number_at-number.result in
+    let u = c.poll_query-reply.new.self in
+    let t = c.forget_ended.new.self in
     IfOk-weaker c.line_text.result _ _
-    (λ text is. request-done c.self.inside.desk c.poll-reply.new.desk c.self.inside.held.items c.self.inside.moment c.args.self.now c.args.session c.args.place x c.poll-reply.new.self request.Poll e
-    (line_text c.args.session) c.poll-reply.result call.0 c.self.view_is c.requires c.index_mut.ensures.value c.poll-reply.ensures.named call.1 refl ((call.2 c.args.session).0) (string_bytes text) is)
+    (λ text is. requested s t c.args.session n request.Poll (string_bytes text) c.number_at-number.ensures
+    (made-turn s u t (event.Poll n) c.poll_query-reply.result (line_text c.args.session) (λ v r. after_poll v n r) (string_bytes text) c.poll_query-reply.ensures
+    (line-shown c.args.session) (λ v. poll-shown v n) c.forget_ended.ensures is))
     c.line_text.ensures

@@ -7,8 +7,8 @@ use Rattle.sessions.specs.SessionNames.{Named}
 use Rattle.sessions.specs.Turns.{session_turn}
 use Rattle.sessions.proofs.script.Script.take_request.Goals as goal
 
-pub returns-in_default : goal.returns-in_default
-returns-in_default c =
+pub returns-in_default-clause-turn : goal.returns-in_default-clause-turn
+returns-in_default-clause-turn g c =
     let test : Named → Bool = λ n. same_name n.name c.args.session in
     let absent = find-absent test c.args.self.now.names (sym c.place_of.ensures ∙ c.in_default.is) in
     ap (session_turn c.args.self.now c.args.session (seen_request c.args.request)) (sym (ap (option_map (λ (n : Named). n.session)) absent))

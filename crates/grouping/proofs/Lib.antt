@@ -1,0 +1,15 @@
+pub mod Cases
+pub mod PlacesLemmas
+pub mod WalkLemmas
+pub mod TallyLemmas
+pub mod SeenLemmas
+pub mod FinishLemmas
+pub mod FastLemmas
+pub mod CellsLemmas
+pub mod Least
+pub mod OrderCases
+pub mod BatchLemmas
+pub mod Fitting
+pub mod ErrorLemmas
+pub mod RunLemmas
+pub mod SpillableLemmas

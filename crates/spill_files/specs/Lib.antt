@@ -1,0 +1,4 @@
+pub mod Errors
+pub mod Meter
+pub mod RunRow
+pub mod Runs

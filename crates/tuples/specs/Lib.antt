@@ -1,0 +1,4 @@
+pub mod Hashing
+pub mod Known
+pub mod Pacing
+pub mod Tuple
