@@ -39,3 +39,4 @@ pub mod Stages
 pub mod StageKeys
 pub mod AllFits
 pub mod SelectExamples
+pub mod Target

@@ -11,3 +11,4 @@ pub mod room;
 pub mod select_examples;
 pub mod select_stages;
 pub mod state;
+pub mod verdict;
