@@ -58,3 +58,5 @@ pub mod Distinct
 pub mod GroupLaws
 pub mod MatchLaws
 pub mod PartLaws
+pub mod Chains
+pub mod Verdicts

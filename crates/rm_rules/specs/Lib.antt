@@ -40,3 +40,4 @@ pub mod StageKeys
 pub mod AllFits
 pub mod SelectExamples
 pub mod Target
+pub mod CascadeExamples

@@ -4,6 +4,8 @@
 pub mod acceptance;
 pub mod answer;
 pub mod arrangements;
+pub mod cascade_examples;
+pub mod cascades;
 pub mod free_bytes;
 pub mod history;
 pub mod readings;
