@@ -4,6 +4,7 @@
 ghost use Rattle.std.specs.Prelude.{◌≡◌, ◌≤◌, ◌↔◌, Some, IsNone, IfOk, vec_len};
 ghost use Rattle.std.specs.IoError.{error_kind};
 ghost use Rattle.rm_base.specs.declared.limits.TheConstants.{FILE_MOST};
+ghost use Rattle.poolhost.specs.Missing.{IsOfNoFile};
 
 use rm_base::limits::{FILE_MOST, PIECE_MOST};
 use rm_outside::outside::Outside;
@@ -151,13 +152,17 @@ impl<'a, F: Files> Shelf for FileShelf<'a, F> {
     }
 }
 
-/// What an error of opening a file means for the host.
+/// What an error of opening a file means for the host. No file has a path that is not found, that leads through a file,
+/// that no name of a file may have, or that is too long for one.
 fn shelf_error(error: &Error) -> ShelfError
-    ensures missing { (result ≡ ShelfError.Missing) ↔ (error_kind error.now ≡ ErrorKind.NotFound) }
+    ensures missing { (result ≡ ShelfError.Missing) ↔ IsOfNoFile (error_kind error.now) }
     ensures memory { (result ≡ ShelfError.Memory) ↔ (error_kind error.now ≡ ErrorKind.OutOfMemory) }
 {
     match error.kind() {
         ErrorKind::NotFound => ShelfError::Missing,
+        ErrorKind::NotADirectory => ShelfError::Missing,
+        ErrorKind::InvalidInput => ShelfError::Missing,
+        ErrorKind::InvalidFilename => ShelfError::Missing,
         ErrorKind::OutOfMemory => ShelfError::Memory,
         _ => ShelfError::Failed,
     }
@@ -242,6 +247,9 @@ mod tests {
         Ok(())
     }
 
+    /// Paths that no file has while `shelf.csv` is a file: of no name, through a file, empty, and of a name with a NUL.
+    static NOWHERE: [&str; 4] = ["none.csv", "shelf.csv/in.csv", "", "a\0b.csv"];
+
     #[test]
     fn adapts_files(rt: HostRuntime) -> Result<(), Fail> {
         fs::write(&rt, "shelf.csv", b"n:int\n1\n")?;
@@ -249,10 +257,10 @@ mod tests {
         let mut shelf = FileShelf::new(&rt);
         let bytes = shelf.load(rt.alloc(), "shelf.csv").expect(&rt, "a file");
         assert_eq!(rt; bytes.as_slice(), b"n:int\n1\n".as_slice());
-        assert_eq!(rt;
-            shelf.load(rt.alloc(), "none.csv").err(),
-            Some(ShelfError::Missing)
-        );
+        for path in NOWHERE {
+            let answer = shelf.load(rt.alloc(), path).err();
+            assert_eq!(rt; answer, Some(ShelfError::Missing), "{path:?}");
+        }
         assert_eq!(rt; shelf.faults(), 0);
         assert_eq!(rt;
             shelf.load(rt.alloc(), "shelf.dir").err(),
