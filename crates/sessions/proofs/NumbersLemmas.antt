@@ -2,15 +2,12 @@
 use Rattle.std.proofs.Common.{◌≡◌, ◌≢◌, ℕ, ◌^◌, ◌<◌, ◌≤◌, Bool, true, false, ◌&&◌, cond, nat_lt, leb, Decides, None, Some, Result, Ok, Err, List, length, get_or, refl, sym, ap, ◌∙◌, arith}
 use Rattle.std.proofs.lemmas.Bool.{false≢true}
 use Rattle.std.proofs.lemmas.Bool.Decides.{Decides-like, Decides-and, Decides-ltb, nat_tests}
-use Rattle.std.proofs.lemmas.Str.Parse.{IsNumeralModel, numerals_by_value, tells_all_ascii_digits, parse_plain, digits_value_short}
+use Rattle.std.proofs.lemmas.Str.Parse.{parse_plain, digits_value_short}
 use Rattle.std.specs.Result.{OkIff, result_ok}
 use Rattle.std.specs.Str.{all_ascii_digits}
 use Rattle.std.specs.Str.Parse.{ParsesUnsigned, digits_value}
-use Rattle.sessions.specs.Numbers.{numeral_of, below, is_numeral, number_of}
-
--- digits, and the number that they write
-pub numerals : IsNumeralModel (λ word. all_ascii_digits word ≡ true) (digits_value 10)
-numerals = numerals_by_value _ tells_all_ascii_digits
+use Rattle.csv_tables.proofs.CellLemmas.{numerals}
+use Rattle.sessions.specs.Numbers.{numeral_of, below, is_numeral, script_number}
 
 ok_decided : {E P : Type 0} (r : Result ℕ E) (v : ℕ) (b : Bool) → OkIff r P v → Decides b P → result_ok r ≡ cond b (Some v) None
 ok_decided (Ok x) v true h d = ap Some h.1
@@ -58,5 +55,5 @@ number-turn : (word : List ℕ) (n : ℕ) (short : Bool) → leb (length word) 1
 number-turn word n true is h = short-below word n (is_numeral word) refl (let le : length word ≤ 15 = grind (arith, nat_tests) in le) h
 number-turn word n false is h = absurd (cc)
 
-pub number_of-short : (word : List ℕ) (n : ℕ) → number_of word ≡ Some n → n < 10 ^ 15
-number_of-short word n h = number-turn word n (leb (length word) 15) refl h
+pub script_number-short : (word : List ℕ) (n : ℕ) → script_number word ≡ Some n → n < 10 ^ 15
+script_number-short word n h = number-turn word n (leb (length word) 15) refl h

@@ -11,7 +11,7 @@ use Rattle.sessions.specs.declared.command.Request.TheVariants as asked
 use Rattle.sessions.specs.declared.command.Command.{Command as Told}
 use Rattle.sessions.specs.declared.command.Command.TheVariants as told
 use Rattle.rm_base.specs.Name.{name_of}
-use Rattle.sessions.specs.Numbers.{number_of, floor_of}
+use Rattle.sessions.specs.Numbers.{script_number, floor_of}
 use Rattle.sessions.specs.Words.{is_space, line_words, one_behind, two_behind, three_behind}
 
 -- what a line asks of a session
@@ -87,7 +87,7 @@ plain_form request words = option_and_then (λ session. option_map (λ s. Of s r
 
 -- `N`
 abbrev pub moment_form : List (List ℕ) → Option Command
-moment_form words = option_and_then (λ moment. option_map At (number_of moment)) (one_behind words)
+moment_form words = option_and_then (λ moment. option_map At (script_number moment)) (one_behind words)
 
 -- `S FLOOR`
 abbrev pub floor_form : List (List ℕ) → Option Command

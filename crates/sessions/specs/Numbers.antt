@@ -27,9 +27,9 @@ abbrev pub in_range : ℕ → ℕ → Option ℕ → Option ℕ
 in_range least most number = below (most + 1) (at_least least number)
 
 -- a number of a script: 1 to 15 digits, leading zeros counted
-abbrev pub number_of : List ℕ → Option ℕ
-number_of word = if nat_le (length word) DIGITS_MOST then numeral_of word else None
+abbrev pub script_number : List ℕ → Option ℕ
+script_number word = if nat_le (length word) DIGITS_MOST then numeral_of word else None
 
 -- a floor: a number of a script from 1 on
 abbrev pub floor_of : List ℕ → Option ℕ
-floor_of word = at_least 1 (number_of word)
+floor_of word = at_least 1 (script_number word)

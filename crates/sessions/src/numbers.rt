@@ -2,7 +2,7 @@
 
 ghost use Rattle.std.specs.Prelude.{◌≡◌, ◌^◌, ◌<◌, option_map};
 ghost use Rattle.rm_base.specs.declared.limits.TheConstants.{DIGITS_MOST};
-ghost use Rattle.sessions.specs.Numbers.{numeral_of, below, number_of, floor_of};
+ghost use Rattle.sessions.specs.Numbers.{numeral_of, below, script_number, floor_of};
 
 use rm_base::limits::DIGITS_MOST;
 
@@ -26,8 +26,8 @@ pub fn numeral_of(word: &str) -> Option<u64>
 }
 
 /// A number of a script.
-pub fn number_of(word: &str) -> Option<u64>
-    ensures { result ≡ number_of word.now }
+pub fn script_number(word: &str) -> Option<u64>
+    ensures { result ≡ script_number word.now }
 {
     if word.len() > DIGITS_MOST {
         return None;
@@ -37,9 +37,9 @@ pub fn number_of(word: &str) -> Option<u64>
 
 /// A moment: a number of a script from 0 on.
 pub fn moment_of(word: &str) -> Option<Number>
-    ensures { option_map (λ n. n.value) result ≡ number_of word.now }
+    ensures { option_map (λ n. n.value) result ≡ script_number word.now }
 {
-    let value = number_of(word)?;
+    let value = script_number(word)?;
     Some(Number { value })
 }
 
@@ -47,5 +47,5 @@ pub fn moment_of(word: &str) -> Option<Number>
 pub fn floor_of(word: &str) -> Option<u64>
     ensures { result ≡ floor_of word.now }
 {
-    number_of(word).filter(|floor| *floor >= 1)
+    script_number(word).filter(|floor| *floor >= 1)
 }

@@ -2,7 +2,7 @@ use Rattle.std.proofs.Common.{◌∙◌, ◌≤◌, arith, sym, ap, cond, None, 
 use Rattle.sessions.proofs.NumbersLemmas.{below-short}
 use Rattle.rm_base.specs.declared.limits.TheConstants.{DIGITS_MOST}
 use Rattle.sessions.specs.Numbers.{numeral_of}
-use Rattle.sessions.proofs.numbers.number_of.Goals as goal
+use Rattle.sessions.proofs.numbers.script_number.Goals as goal
 
 pub returns : goal.returns
 returns c =
