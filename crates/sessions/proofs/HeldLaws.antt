@@ -15,11 +15,11 @@ use Rattle.rm_rules.specs.Replay.{IsFormed}
 use Rattle.rm_rules.proofs.Places.{position-within, position-is, find-found, without-found}
 use Rattle.rm_rules.proofs.Taken.{found_passes}
 use Rattle.sessions.specs.declared.held.Held.{Held}
-use Rattle.sessions.specs.Held.{named, held_names, IsHeld, AreApart, AreHeld}
+use Rattle.sessions.specs.Held.{named_session, held_names, IsHeld, AreApart, AreHeld}
 use Rattle.sessions.specs.Host.{Known, Called}
 use Rattle.sessions.specs.Running.{ends_nothing}
 use Rattle.sessions.specs.Session.{SeesOpen}
-use Rattle.sessions.specs.SessionNames.{Named, place_named, session_named, without_name}
+use Rattle.sessions.specs.SessionNames.{NamedSession, place_named, session_named, without_name}
 use Rattle.sessions.proofs.SessionLaws.{open-called, running-called}
 
 -- a held session goes on where a call ends neither it nor its query
@@ -68,8 +68,8 @@ others-go_on old new at event answered n (h ∷ hs) called formed other apart ar
     let unended = other h.session.number apart.0 in
     (held-goes_on old new at event answered h called formed unended.0 unended.1 are.0, are.1, others-go_on old new at event answered n hs called formed other apart.1 are.2)
 
-apart-changed : (n : ℕ) (front back : List Held) (h g : Held) → named g ≡ named h → AreApart n (front ++ h ∷ back) → AreApart n (front ++ g ∷ back)
-apart-changed n [] back h g same apart = (λ is. apart.0 (sym (ap (λ (m : Named). m.session) same) ∙ is), apart.1)
+apart-changed : (n : ℕ) (front back : List Held) (h g : Held) → named_session g ≡ named_session h → AreApart n (front ++ h ∷ back) → AreApart n (front ++ g ∷ back)
+apart-changed n [] back h g same apart = (λ is. apart.0 (sym (ap (λ (m : NamedSession). m.session) same) ∙ is), apart.1)
 apart-changed n (f ∷ fs) back h g same apart = (apart.0, apart-changed n fs back h g same apart.1)
 
 apart-middle : (n : ℕ) (front back : List Held) (h : Held) → AreApart n (front ++ h ∷ back) → h.session.number ≢ n
@@ -82,9 +82,9 @@ apart-without n (f ∷ fs) back h apart = (apart.0, apart-without n fs back h ap
 
 -- a call for the session that stands between these leaves them, and the session as it is then
 changed-held : (old new : Known) (at : ℕ) (event : Event) (answered : Answered) (front back : List Held) (h g : Held) → Called old new at event answered → IsFormed event
-    → EndsAtMost h.session.number event → named g ≡ named h → IsHeld new g → AreHeld old (front ++ h ∷ back) → AreHeld new (front ++ g ∷ back)
+    → EndsAtMost h.session.number event → named_session g ≡ named_session h → IsHeld new g → AreHeld old (front ++ h ∷ back) → AreHeld new (front ++ g ∷ back)
 changed-held old new at event answered [] back h g called formed other same is are =
-    let number = ap (λ (m : Named). m.session) same in
+    let number = ap (λ (m : NamedSession). m.session) same in
     (is, subst (λ n. AreApart n back) (sym number) are.1, others-go_on old new at event answered h.session.number back called formed other are.1 are.2)
 changed-held old new at event answered (f ∷ fs) back h g called formed other same is are =
     let unended = other f.session.number (λ e. apart-middle f.session.number fs back h are.1 (sym e)) in (
@@ -137,8 +137,8 @@ list_any-map p f (x ∷ xs) = ap (λ b. p (f x) || b) (list_any-map p f xs)
 
 names-without : (hs : List Held) (place : ℕ) → remove (held_names hs) place ≡ held_names (remove hs place)
 names-without hs place =
-    ap (λ l. l ++ drop (suc place) (map named hs)) (take-map named place hs) ∙ ap (λ l. map named (take place hs) ++ l) (drop-map named (suc place) hs)
-    ∙ sym (map-append named (take place hs) (drop (suc place) hs))
+    ap (λ l. l ++ drop (suc place) (map named_session hs)) (take-map named_session place hs) ∙ ap (λ l. map named_session (take place hs) ++ l) (drop-map named_session (suc place) hs)
+    ∙ sym (map-append named_session (take place hs) (drop (suc place) hs))
 
 -- the session that has a name, by the name's place
 pub record IsNamed (hs : List Held) (name : Name) (place : ℕ) (h : Held) : Type 0 where
@@ -147,17 +147,17 @@ pub record IsNamed (hs : List Held) (name : Name) (place : ℕ) (h : Held) : Typ
   pub session : session_named (held_names hs) name ≡ Some h.session.number
   pub gone : without_name name (held_names hs) ≡ held_names (take place hs ++ drop (suc place) hs)
 
-pub found-at : (hs : List Held) (names : List Named) (name : Name) (place : ℕ) (x : Held) → held_names hs ≡ names → place_named names name ≡ Some place → x ≡ get_or hs place x → IsNamed hs name place x
+pub found-at : (hs : List Held) (names : List NamedSession) (name : Name) (place : ℕ) (x : Held) → held_names hs ≡ names → place_named names name ≡ Some place → x ≡ get_or hs place x → IsNamed hs name place x
 found-at hs names name place x seen found at =
-    let test : Named → Bool = λ n. same_name n.name name in
-    let placed : position test (held_names hs) ≡ Some place = ap (λ (l : List Named). place_named l name) seen ∙ found in
-    let within : place < length hs = omega (arith, position-within test (held_names hs) place placed, position-is test (held_names hs) place placed, length-map hs named) in
-    let there : find test (held_names hs) ≡ Some (named x) =
-    find-found test (held_names hs) place (named x) placed (ap named at ∙ sym (get_or-map named hs place x (named x) within)) in
+    let test : NamedSession → Bool = λ n. same_name n.name name in
+    let placed : position test (held_names hs) ≡ Some place = ap (λ (l : List NamedSession). place_named l name) seen ∙ found in
+    let within : place < length hs = omega (arith, position-within test (held_names hs) place placed, position-is test (held_names hs) place placed, length-map hs named_session) in
+    let there : find test (held_names hs) ≡ Some (named_session x) =
+    find-found test (held_names hs) place (named_session x) placed (ap named_session at ∙ sym (get_or-map named_session hs place x (named_session x) within)) in
     record {
       within = within;
-      called = same_name-eq x.name name (found_passes test (named x) (held_names hs) there);
-      session = ap (option_map (λ (n : Named). n.session)) there;
+      called = same_name-eq x.name name (found_passes test (named_session x) (held_names hs) there);
+      session = ap (option_map (λ (n : NamedSession). n.session)) there;
       gone = without-found test (held_names hs) place placed ∙ names-without hs place;
     }
 
@@ -170,7 +170,7 @@ pub held-at : (k : Known) (hs : List Held) (place : ℕ) (x : Held) → place < 
 held-at k hs place x within at are = middle-held k (take place hs) (drop (suc place) hs) x (subst (AreHeld k) (middle hs place x within at) are)
 
 pub placed-held : (old new : Known) (at : ℕ) (event : Event) (answered : Answered) (hs : List Held) (place : ℕ) (x g : Held) → place < length hs → x ≡ get_or hs place x
-    → Called old new at event answered → IsFormed event → EndsAtMost x.session.number event → named g ≡ named x → IsHeld new g → AreHeld old hs → AreHeld new (set hs place g)
+    → Called old new at event answered → IsFormed event → EndsAtMost x.session.number event → named_session g ≡ named_session x → IsHeld new g → AreHeld old hs → AreHeld new (set hs place g)
 placed-held old new at event answered hs place x g within there called formed other same is are =
     subst (AreHeld new) (sym (set_split hs place g within))
     (changed-held old new at event answered (take place hs) (drop (suc place) hs) x g called formed other same is (subst (AreHeld old) (middle hs place x within there) are))

@@ -10,7 +10,6 @@ pub mod EndedLemmas
 mod HeldLaws
 mod HoldingLaws
 mod AnswerLemmas
-mod TableLemmas
 mod CommandLemmas
 mod CsvLemmas
 mod PrintLemmas

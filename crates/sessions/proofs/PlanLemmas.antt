@@ -1,5 +1,5 @@
 -- Plans that are kept can be run over the script's tables.
-use Rattle.std.proofs.Common.{◌≡◌, ℕ, ◌==◌, ◌<◌, ◌≤◌, nat_le, arith, eqb, Bool, true, false, cond, List, [], ◌∷◌, ◌++◌, Option, Some, None, Result, Ok, Err, find, refl, sym, ap, ◌∙◌, subst}
+use Rattle.std.proofs.Common.{◌≡◌, ℕ, ◌==◌, eqb, Bool, true, false, cond, List, [], ◌∷◌, ◌++◌, Option, Some, None, Result, Ok, Err, find, refl, sym, ap, ◌∙◌, subst}
 use Rattle.std.specs.Prelude.{option_map, IfSome, OnOk, OnErr}
 use Rattle.rm_base.specs.declared.catalog.CatalogTable.{CatalogTable}
 use Rattle.rm_base.specs.declared.name.Name.{Name}
@@ -11,11 +11,7 @@ use Rattle.csv_tables.specs.declared.tables.NamedTable.{NamedTable}
 use Rattle.csv_tables.specs.Named.{table_called, catalog_table, catalog_of}
 use Rattle.query_plan.specs.Scope.{table_named}
 use Rattle.query_plan.specs.Text.{IsSpelled, SpellsText}
-use Rattle.query_run.specs.Running.{IsRunnable, run_outcome}
-use Rattle.query_run.specs.Running.RunOutcome.{Spills}
-use Rattle.rm_base.specs.Select.{select_floor}
-use Rattle.std.proofs.lemmas.Bool.Decides.{nat_tests}
-use Rattle.sessions.specs.AnswerTexts.{plan_outcome}
+use Rattle.query_run.specs.Running.{IsRunnable}
 use Rattle.sessions.specs.declared.plans.KeptPlan.{KeptPlan}
 use Rattle.sessions.specs.Plans.{plan_of, with_plan, without_plan, AreRunnable}
 
@@ -92,17 +88,6 @@ kept-runs tables session plan (k ∷ ks) h is =
       | true ↦ λ same. let e : k.plan ≡ plan = cc in subst (λ (p : Select). IsRunnable p tables) e h.0
       | false ↦ λ same. kept-runs tables session plan ks h.1 same
     ]) is
-
--- a run with the plan's floor at least ends as runs do, and one with less keeps nothing
-pub outcome-fits : (grant : ℕ) (plan : Select) (tables : List TableSeen) → select_floor plan ≤ grant → plan_outcome grant plan tables ≡ run_outcome grant plan tables
-outcome-fits grant plan tables fits =
-    let is : nat_le (select_floor plan) grant ≡ true = grind (arith, nat_tests, fits) in
-    ap (λ b. cond b (run_outcome grant plan tables) Spills) is
-
-pub outcome-small : (grant : ℕ) (plan : Select) (tables : List TableSeen) → grant < select_floor plan → plan_outcome grant plan tables ≡ Spills
-outcome-small grant plan tables small =
-    let is : nat_le (select_floor plan) grant ≡ false = grind (arith, nat_tests, small) in
-    ap (λ b. cond b (run_outcome grant plan tables) Spills) is
 
 -- what keeping a plan leaves, with memory and without
 pub run-kept : {E : Type 0} (tables : List NamedTable) (session : ℕ) (plan : Select) (plans now : List KeptPlan) (r : Result (Unit {0}) E) → OnOk r (now ≡ with_plan session plan plans)

@@ -2,7 +2,7 @@
 use Rattle.std.proofs.Common.{◌≡◌, ℕ, ◌+◌, ◌≤◌, ◌<◌, List, [], ◌∷◌, ◌++◌, length, Option, Some, None, Result, Ok, Err, refl, sym, ap, ◌∙◌, subst, arith, append_assoc, append-nil}
 use Rattle.std.specs.Prelude.{IfErr}
 use Rattle.std.specs.Io.KnownBytes.{Appends, Keeps}
-use Rattle.std.proofs.KnownBytes.{Appends-trans, Appends-nil, Keeps-refl}
+use Rattle.std.proofs.KnownBytes.{Appends-trans, Appends-nil}
 use Rattle.std.specs.Str.Lines.{lines}
 use Rattle.sessions.specs.declared.failure.Failure.{Failure}
 use Rattle.sessions.specs.declared.failure.Failure.TheVariants.{Usage, BadLine, ReadFault, ShelfFault, WriteFault, BadTable, Memory, TooLong}
@@ -83,29 +83,10 @@ unwritten-line line old new text BadTable h = tt
 unwritten-line line old new text Memory h = tt
 unwritten-line line old new text TooLong h = tt
 
--- the causes of a text that was not written
-pub unwritten-cause : (old new : Seen (Option (List ℕ))) (shelf shelf' : SeenShelf) (text : List ℕ) (f : Failure) → ExplainsOutput old new text f → IsCause old new shelf shelf' f
-unwritten-cause old new shelf shelf' text Usage h = absurd h
-unwritten-cause old new shelf shelf' text BadLine h = absurd h
-unwritten-cause old new shelf shelf' text ReadFault h = absurd h
-unwritten-cause old new shelf shelf' text ShelfFault h = absurd h
-unwritten-cause old new shelf shelf' text WriteFault h = h.1
-unwritten-cause old new shelf shelf' text BadTable h = absurd h
-unwritten-cause old new shelf shelf' text Memory h = tt
-unwritten-cause old new shelf shelf' text TooLong h = absurd h
-
 pub printed-ends : (files : Files) (number : ℕ) (s s' : ScriptState) (line : List ℕ) (old new : Seen (Option (List ℕ))) (text : List ℕ) (f : Failure) → line_turn files s line ≡ Goes text s'
     → ExplainsOutput old new text f → EndedAt files number s line old.told new.told f
 printed-ends files number s s' line old new text f turn err = record {
   ends = λ next. unwritten old new text (next s').text (turn_end number s (line_turn files s line) next) f (ap (λ t. (turn_end number s t next).text) turn) err;
-  at_table = unwritten-line line old new text f err;
-}
-
--- a text that ends the script was not written whole, or was
-pub last-unwritten : (files : Files) (number : ℕ) (s : ScriptState) (line : List ℕ) (old new : Seen (Option (List ℕ))) (text : List ℕ) (f : Failure)
-    → ((next : ScriptState → ScriptEnd) → (turn_end number s (line_turn files s line) next).text ≡ text) → ExplainsOutput old new text f → EndedAt files number s line old.told new.told f
-last-unwritten files number s line old new text f same err = record {
-  ends = λ next. unwritten old new text [] (turn_end number s (line_turn files s line) next) f (same next ∙ sym (append-nil text)) err;
   at_table = unwritten-line line old new text f err;
 }
 
@@ -196,31 +177,6 @@ cause-later a b c x y z WriteFault out shelf h = omega (arith, out, h)
 cause-later a b c x y z BadTable out shelf h = tt
 cause-later a b c x y z Memory out shelf h = tt
 cause-later a b c x y z TooLong out shelf h = absurd h
-
--- a line that could not be done ends the script there, with nothing written
-pub line-ends : (files : Files) (number : ℕ) (s : ScriptState) (line : List ℕ) (out : Option (List ℕ)) (shelf shelf' : SeenShelf) (f : Failure) → IsLineFault line shelf shelf' f
-    → EndedAt files number s line out out f
-line-ends files number s line out shelf shelf' Usage h = absurd h
-line-ends files number s line out shelf shelf' BadLine h = absurd h
-line-ends files number s line out shelf shelf' ReadFault h = absurd h
-line-ends files number s line out shelf shelf' ShelfFault h = record { ends = λ next. Appends-nil out; at_table = h.0 }
-line-ends files number s line out shelf shelf' WriteFault h = absurd h
-line-ends files number s line out shelf shelf' BadTable h = absurd h
-line-ends files number s line out shelf shelf' Memory h = record {
-  ends = λ next. wrote_nothing out out (turn_end number s (line_turn files s line) next).text (Keeps-refl out);
-  at_table = tt;
-}
-line-ends files number s line out shelf shelf' TooLong h = absurd h
-
-pub line-cause : (line : List ℕ) (out : Seen (Option (List ℕ))) (shelf shelf' : SeenShelf) (f : Failure) → IsLineFault line shelf shelf' f → IsCause out out shelf shelf' f
-line-cause line out shelf shelf' Usage h = absurd h
-line-cause line out shelf shelf' BadLine h = absurd h
-line-cause line out shelf shelf' ReadFault h = absurd h
-line-cause line out shelf shelf' ShelfFault h = h.1
-line-cause line out shelf shelf' WriteFault h = absurd h
-line-cause line out shelf shelf' BadTable h = absurd h
-line-cause line out shelf shelf' Memory h = tt
-line-cause line out shelf shelf' TooLong h = absurd h
 
 pub if_err-weaker : {T E : Type 0} (r : Result T E) (P Q : E → Type 0) → ((e : E) → P e → Q e) → IfErr r P → IfErr r Q
 if_err-weaker (Ok x) P Q weaker h = tt

@@ -20,11 +20,11 @@ use Rattle.rm_base.specs.declared.select.Select.{Select}
 use Rattle.rm_base.specs.Select.{select_floor}
 use Rattle.sessions.specs.declared.script.Turned.{Turned}
 use Rattle.sessions.specs.Commands.{Request, Done, Close}
-use Rattle.sessions.specs.Held.{named, held_names, unnumbered, PrintsAs}
+use Rattle.sessions.specs.Held.{named_session, held_names, unnumbered, PrintsAs}
 use Rattle.sessions.specs.Host.{state_of, Called, desk_known}
 use Rattle.sessions.specs.Plans.{plan_of, without_plan}
 use Rattle.sessions.specs.Running.{DoesRequest, Makes, seen_turn}
-use Rattle.sessions.specs.SessionNames.{Named, place_named, session_named, without_name}
+use Rattle.sessions.specs.SessionNames.{NamedSession, place_named, session_named, without_name}
 use Rattle.sessions.specs.Texts.{line_text, queued_text}
 use Rattle.sessions.specs.Turns.{ScriptState, Goes, called, after_close, after_finish, after_submit, done_text, done_turn, query_turn, request_turn, session_turn}
 use Rattle.sessions.proofs.PrintLemmas.{done-shown, finish-shown, queued-shown, submit-shown}
@@ -43,7 +43,7 @@ stepped-state d e hs gs plans tables at s event answered seen made names =
     let is = called-alone (desk_known d) (desk_known e) at event answered made refl in
     subst (λ (t : ScriptState). state_with e gs plans tables at ≡ (let u : ScriptState = record t { machine = (step t.machine 0 t.moment event).state } in u)) seen
     (ap (λ m. let u : ScriptState = record { machine = m; names = held_names gs; plans = plans; tables = tables; moment = at } in u) is.state
-    ∙ ap (λ (l : List Named). let u : ScriptState = record { machine = (step (state_of (desk_known d)) 0 at event).state; names = l; plans = plans; tables = tables; moment = at } in u) names)
+    ∙ ap (λ (l : List NamedSession). let u : ScriptState = record { machine = (step (state_of (desk_known d)) 0 at event).state; names = l; plans = plans; tables = tables; moment = at } in u) names)
 
 pub stepped-reply : (d e : DeskState) (hs : List Held) (plans : List KeptPlan) (tables : List NamedTable) (at : ℕ) (s : ScriptState) (event : Event) (answered : Answered)
     → state_with d hs plans tables at ≡ s → Called (desk_known d) (desk_known e) at event answered
@@ -74,8 +74,8 @@ pub requested : (s t : ScriptState) (session : Name) (number : ℕ) (request : R
 requested s t session number request text found is = is ∙ ap (session_turn s session request) (sym found)
 
 -- the session that stands at a place may change, and comes back there
-names-set : (hs : List Held) (place : ℕ) (h g : Held) → h ≡ get_or hs place h → named g ≡ named h → held_names (set hs place g) ≡ held_names hs
-names-set hs place h g at same = map-set_same named hs place g h (same ∙ ap named at)
+names-set : (hs : List Held) (place : ℕ) (h g : Held) → h ≡ get_or hs place h → named_session g ≡ named_session h → held_names (set hs place g) ≡ held_names hs
+names-set hs place h g at same = map-set_same named_session hs place g h (same ∙ ap named_session at)
 
 -- what was taken out of its place and changed comes back there
 pub insert-removed : (hs rest : List Held) (place : ℕ) (g : Held) → place < length hs → rest ≡ remove hs place → insert rest place g ≡ set hs place g
@@ -88,8 +88,8 @@ insert-removed hs rest place g within is =
     (ap (λ l. l ++ g ∷ drop (length front) (front ++ back)) (take-append_seam front back) ∙ ap (λ l. front ++ g ∷ l) (drop-append_seam front back))
     ∙ sym (set_split hs place g within)
 
-pub names-more : (hs : List Held) (g : Held) → held_names (hs ++ g ∷ []) ≡ held_names hs ++ named g ∷ []
-names-more hs g = map-append named hs (g ∷ [])
+pub names-more : (hs : List Held) (g : Held) → held_names (hs ++ g ∷ []) ≡ held_names hs ++ named_session g ∷ []
+names-more hs g = map-append named_session hs (g ∷ [])
 
 -- the session that has a name, in the state of a script
 pub named-number : (d : DeskState) (hs : List Held) (plans : List KeptPlan) (tables : List NamedTable) (at : ℕ) (s : ScriptState) (session : Name) (place : ℕ) (x : Held)
@@ -97,7 +97,7 @@ pub named-number : (d : DeskState) (hs : List Held) (plans : List KeptPlan) (tab
     → session_named s.names session ≡ Some x.session.number
 named-number d hs plans tables at s session place x seen found there =
     let names = ap (λ (t : ScriptState). t.names) seen in
-    ap (λ (l : List Named). session_named l session) (sym names) ∙ (found-at hs s.names session place x names found there).session
+    ap (λ (l : List NamedSession). session_named l session) (sym names) ∙ (found-at hs s.names session place x names found there).session
 
 -- the number of the session at a place is the one of its name
 pub number-is : (d : DeskState) (hs : List Held) (plans : List KeptPlan) (tables : List NamedTable) (at : ℕ) (s : ScriptState) (session : Name) (place number : ℕ) (x : Held)
@@ -107,7 +107,7 @@ number-is d hs plans tables at s session place number x seen found there named_s
 
 -- a call for the session at a place
 pub makes : (d e : DeskState) (hs : List Held) (plans : List KeptPlan) (tables : List NamedTable) (at : ℕ) (s : ScriptState) (place : ℕ) (x g : Held) (event : Event) (r : Reply) (answered : Answered)
-    → state_with d hs plans tables at ≡ s → x ≡ get_or hs place x → named g ≡ named x → Called (desk_known d) (desk_known e) at event answered → PrintsAs r answered.reply
+    → state_with d hs plans tables at ≡ s → x ≡ get_or hs place x → named_session g ≡ named_session x → Called (desk_known d) (desk_known e) at event answered → PrintsAs r answered.reply
     → Makes s (state_with e (set hs place g) plans tables at) event r
 makes d e hs plans tables at s place x g event r answered seen there same made prints = record {
   reply = prints ∙ ap unnumbered (stepped-reply d e hs plans tables at s event answered seen made);
@@ -135,13 +135,13 @@ closed-gone d e hs plans tables at s session place x answered seen found there m
     let gone = (found-at hs s.names session place x (ap (λ (t : ScriptState). t.names) seen) found there).gone in
     does-close s (state_with e (remove hs place) (without_plan n plans) tables at) session n reply.Closed text (named-number d hs plans tables at s session place x seen found there)
     (sym answer ∙ stepped-reply d e hs plans tables at s (event.Close n) answered seen made)
-    (ap (λ (l : List Named). let t : ScriptState = record { machine = state_of (desk_known e); names = l; plans = without_plan n plans; tables = tables; moment = at } in t) (sym gone)
+    (ap (λ (l : List NamedSession). let t : ScriptState = record { machine = state_of (desk_known e); names = l; plans = without_plan n plans; tables = tables; moment = at } in t) (sym gone)
     ∙ ap away (stepped-state d e hs hs plans tables at s (event.Close n) answered seen made refl))
     is
 
 pub closed-not : (d e : DeskState) (hs : List Held) (plans : List KeptPlan) (tables : List NamedTable) (at : ℕ) (s : ScriptState) (session : Name) (place : ℕ) (x g : Held) (refusal : Refusal) (answered : Answered)
     → state_with d hs plans tables at ≡ s
-    → place_named s.names session ≡ Some place → x ≡ get_or hs place x → named g ≡ named x → Called (desk_known d) (desk_known e) at (event.Close x.session.number) answered
+    → place_named s.names session ≡ Some place → x ≡ get_or hs place x → named_session g ≡ named_session x → Called (desk_known d) (desk_known e) at (event.Close x.session.number) answered
     → answered.reply ≡ reply.Refused refusal → (text : List ℕ) → text ≡ line_text session (reply.Refused refusal) → DoesRequest s (state_with e (set hs place g) plans tables at) session Close text
 closed-not d e hs plans tables at s session place x g refusal answered seen found there same made answer text is =
     does-close s (state_with e (set hs place g) plans tables at) session x.session.number (reply.Refused refusal) text (named-number d hs plans tables at s session place x seen found there)

@@ -11,14 +11,14 @@ use Rattle.sessions.specs.declared.submitted.Submitted.TheVariants.{Admitted, Wa
 use Rattle.sessions.specs.Granted.{Granted}
 use Rattle.sessions.specs.Host.{Known}
 use Rattle.sessions.specs.Session.{SeesOpen, HoldsGrant}
-use Rattle.sessions.specs.SessionNames.{Named}
+use Rattle.sessions.specs.SessionNames.{NamedSession}
 
 -- a held session, by its name and its number
-abbrev pub named : Held → Named
-named h = record { name = h.name; session = h.session.number }
+abbrev pub named_session : Held → NamedSession
+named_session h = record { name = h.name; session = h.session.number }
 
-abbrev pub held_names : List Held → List Named
-held_names held = map named held
+abbrev pub held_names : List Held → List NamedSession
+held_names held = map named_session held
 
 -- The session is open, it knows whether its grant is out, and the query runs to which that was given.
 pub record IsHeld (known : Known) (h : Held) : Type 0 where

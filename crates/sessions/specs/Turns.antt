@@ -27,14 +27,14 @@ use Rattle.sessions.specs.declared.plans.KeptPlan.{KeptPlan}
 use Rattle.sessions.specs.declared.status.TheConstants.{BAD_TABLE}
 use Rattle.sessions.specs.AnswerTexts.{outcome_text, plan_outcome, fault_text, loaded_text, unloaded_text}
 use Rattle.sessions.specs.Plans.{plan_of, with_plan, without_plan}
-use Rattle.sessions.specs.SessionNames.{Named, is_used, session_named, without_name}
+use Rattle.sessions.specs.SessionNames.{NamedSession, has_session, session_named, without_name}
 use Rattle.sessions.specs.Texts.{line_text, queued_text, chosen_text, bare_text}
 
 -- the state of a script: the machine's, the script's names of the open sessions, the plans that it keeps for them, its
 -- tables, and its moment
 pub record ScriptState : Type 0 where
   pub machine : State
-  pub names : List Named
+  pub names : List NamedSession
   pub plans : List KeptPlan
   pub tables : List NamedTable
   pub moment : ℕ
@@ -98,7 +98,7 @@ opening_turn s session user pool =
 
 -- `open S USER` or `open S USER POOL`: bad where a session has the name
 abbrev pub open_turn : ScriptState → Name → Name → Option Name → Turn
-open_turn s session user pool = if is_used s.names session then Bad else opening_turn s session user pool
+open_turn s session user pool = if has_session s.names session then Bad else opening_turn s session user pool
 
 -- the script after the reply to Close: a session that is gone leaves its name free, and no plan is kept for it
 abbrev pub after_close : ScriptState → Name → ℕ → Reply → ScriptState

@@ -3,7 +3,7 @@
 ghost use Rattle.std.specs.Prelude.{◌≡◌, ◌<◌, length, position, IfErr, IfSome};
 ghost use Rattle.std.specs.List.{list_any};
 ghost use Rattle.rm_base.specs.Name.{same_name};
-ghost use Rattle.sessions.specs.Held.{named, IsHeld, printed, PrintsAs, grant_after, closing_reply};
+ghost use Rattle.sessions.specs.Held.{named_session, IsHeld, printed, PrintsAs, grant_after, closing_reply};
 ghost use Rattle.sessions.specs.Host.{desk_known};
 ghost use Rattle.sessions.specs.Session.{CallsOnce};
 
@@ -45,7 +45,7 @@ impl Held {
         requires { IsHeld (desk_known desk.old) self.old }
         ensures call { CallsOnce (desk_known desk.old) (desk_known desk.new) at (Event.Submit self.old.session.number floor) (PrintsAs result) }
         ensures held { IsHeld (desk_known desk.new) self.new }
-        ensures named { named self.new ≡ named self.old }
+        ensures named { named_session self.new ≡ named_session self.old }
     {
         let told = self.session.submit(desk, at, floor);
         let reply = printed(&told);
@@ -58,7 +58,7 @@ impl Held {
         requires { IsHeld (desk_known desk.old) self.old }
         ensures call { CallsOnce (desk_known desk.old) (desk_known desk.new) at (Event.Poll self.old.session.number) (PrintsAs result) }
         ensures held { IsHeld (desk_known desk.new) self.new }
-        ensures named { named self.new ≡ named self.old }
+        ensures named { named_session self.new ≡ named_session self.old }
     {
         let grant = self.grant.take();
         let told = self.session.poll(desk, at, grant);
@@ -72,7 +72,7 @@ impl Held {
         requires { IsHeld (desk_known desk.old) self.old }
         ensures call { CallsOnce (desk_known desk.old) (desk_known desk.new) at (Event.Finish self.old.session.number) (λ reply. reply ≡ result) }
         ensures held { IsHeld (desk_known desk.new) self.new }
-        ensures named { named self.new ≡ named self.old }
+        ensures named { named_session self.new ≡ named_session self.old }
     {
         match self.grant.take() {
             Some(grant) => Reply::Released(self.session.finish(desk, at, grant)),
@@ -91,7 +91,7 @@ impl Held {
         requires { IsHeld (desk_known desk.old) self }
         ensures call { CallsOnce (desk_known desk.old) (desk_known desk.new) at (Event.Close self.session.number) (λ reply. reply ≡ closing_reply result) }
         ensures held { IfErr result (λ back. IsHeld (desk_known desk.new) back.0) }
-        ensures named { IfErr result (λ back. named back.0 ≡ named self) }
+        ensures named { IfErr result (λ back. named_session back.0 ≡ named_session self) }
     {
         let Held {
             name,
@@ -174,7 +174,7 @@ pub fn place_of(held: &[Held], name: Name) -> Option<usize>
 }
 
 /// Whether a session has this name.
-pub fn is_used(held: &[Held], name: Name) -> bool
+pub fn has_session(held: &[Held], name: Name) -> bool
     ensures { result ≡ list_any (λ h. same_name h.name name) held.now }
 {
     held.iter().any(|h| h.name.same(name))

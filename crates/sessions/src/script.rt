@@ -11,7 +11,7 @@ use crate::answer::{Answer, run_plan};
 use crate::command::{Command, Request, read_command};
 use crate::comments::is_comment;
 use crate::failure::Failure;
-use crate::held::{Held, is_used, place_of};
+use crate::held::{Held, has_session, place_of};
 use crate::host::Host;
 use crate::lines::readable;
 use crate::numbers::Number;
@@ -89,7 +89,7 @@ impl Script {
     ghost use Rattle.sessions.specs.Plans.{plan_of};
     ghost use Rattle.sessions.specs.Turns.{Goes, turn, at_turn, read_turn, statement_turn, open_turn, chosen_turn, after_open, session_turn, query_turn, query_for, after_submit, after_poll, after_finish, done_text, table_turn, loaded_turn, has_no_place};
     ghost use Rattle.sessions.specs.World.{WhereTold, seen_shelf};
-    ghost use Rattle.sessions.specs.SessionNames.{is_used, place_named, session_named};
+    ghost use Rattle.sessions.specs.SessionNames.{has_session, place_named, session_named};
     ghost use Rattle.sessions.specs.Running.{seen_turn, ends_nothing, DoesRequest, Makes, IsLineFault, IsCommandFault, IsLoadFault};
 
     /// A script before its first line.
@@ -212,7 +212,7 @@ impl Script {
     ) -> Result<Turned, AllocError>
         ensures { IfOk result (λ t. seen_turn t self.new ≡ open_turn self.old session user pool) }
     {
-        if self.is_used(session) {
+        if self.has_session(session) {
             return Ok(Turned::Bad);
         }
         match self.open_session(session, user)? {
@@ -538,10 +538,10 @@ impl Script {
     }
 
     /// Whether a session has this name.
-    fn is_used(&self, session: Name) -> bool
-        ensures { result ≡ is_used self.now.names session }
+    fn has_session(&self, session: Name) -> bool
+        ensures { result ≡ has_session self.now.names session }
     {
-        is_used(&self.held, session)
+        has_session(&self.held, session)
     }
 
     /// The place of the session that has this name.

@@ -3,8 +3,8 @@ use Rattle.rm_base.specs.declared.event.Event.TheVariants as event
 use Rattle.rm_base.specs.declared.reply.Reply.TheVariants as reply
 use Rattle.rm_rules.specs.Step.{step}
 use Rattle.sessions.specs.declared.held.Held.{Held}
-use Rattle.sessions.specs.Held.{AreHeld, named, held_names}
-use Rattle.sessions.specs.SessionNames.{Named}
+use Rattle.sessions.specs.Held.{AreHeld, named_session, held_names}
+use Rattle.sessions.specs.SessionNames.{NamedSession}
 use Rattle.sessions.specs.Host.{state_of, desk_known}
 use Rattle.sessions.specs.Turns.{ScriptState, with_name}
 use Rattle.sessions.proofs.HeldLaws.{all-go_on}
@@ -51,10 +51,10 @@ returns-in_ok-push-in-Ok-clause-state c =
     let hs = c.self.inside.held.items in
     let g : Held = record { name = c.args.session; session = c.in-Ok.opened; grant = None } in
     let at = c.self.inside.moment in
-    let more : (l : List Named) → ScriptState → ScriptState = λ l t. record t { names = t.names ++ l } in
-    ap (λ (l : List Named). let t : ScriptState = record { machine = state_of (desk_known c.open.new.host); names = l; plans = c.self.inside.plans; tables = c.self.inside.tables; moment = at } in t)
+    let more : (l : List NamedSession) → ScriptState → ScriptState = λ l t. record t { names = t.names ++ l } in
+    ap (λ (l : List NamedSession). let t : ScriptState = record { machine = state_of (desk_known c.open.new.host); names = l; plans = c.self.inside.plans; tables = c.self.inside.tables; moment = at } in t)
     (ap held_names c.in_ok-push-in-Ok.ensures.items ∙ names-more hs g)
-    ∙ ap (more (named g ∷ [])) (stepped-state c.self.inside.desk c.open.new.host hs hs c.self.inside.plans c.self.inside.tables at c.args.self.now (event.Open c.args.user) call.0 c.self.view_is call.1 refl)
+    ∙ ap (more (named_session g ∷ [])) (stepped-state c.self.inside.desk c.open.new.host hs hs c.self.inside.plans c.self.inside.tables at c.args.self.now (event.Open c.args.user) call.0 c.self.view_is call.1 refl)
     ∙ ap (λ n. with_name (let t : ScriptState = record c.args.self.now { machine = (step c.args.self.now.machine 0 c.args.self.now.moment (event.Open c.args.user)).state } in t) c.args.session n)
     (sym c.number-number.ensures)
 

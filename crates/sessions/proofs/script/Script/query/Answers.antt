@@ -6,16 +6,16 @@ use Rattle.rm_rules.proofs.Places.{find-absent}
 use Rattle.csv_tables.specs.declared.tables.NamedTable.{NamedTable}
 use Rattle.query_plan.specs.Text.{SpellsText}
 use Rattle.query_run.specs.Running.{IsRunnable}
-use Rattle.sessions.specs.SessionNames.{Named}
+use Rattle.sessions.specs.SessionNames.{NamedSession}
 use Rattle.sessions.specs.Turns.{ScriptState, query_for}
 use Rattle.sessions.proofs.PlanLemmas.{spelled-runs}
 use Rattle.sessions.proofs.script.Script.query.Goals as goal
 
 pub returns-in_default : goal.returns-in_default
 returns-in_default c =
-    let test : Named → Bool = λ n. same_name n.name c.args.session in
+    let test : NamedSession → Bool = λ n. same_name n.name c.args.session in
     let absent = find-absent test c.args.self.now.names (sym c.place_of.ensures ∙ c.in_default.is) in
-    ap (query_for c.args.self.now c.args.session c.args.text.now) (sym (ap (option_map (λ (n : Named). n.session)) absent))
+    ap (query_for c.args.self.now c.args.session c.args.text.now) (sym (ap (option_map (λ (n : NamedSession). n.session)) absent))
 
 pub submit_plan-requires-clause-runnable : goal.submit_plan-requires-clause-runnable
 submit_plan-requires-clause-runnable c =

@@ -3,7 +3,7 @@ use Rattle.std.proofs.lemmas.Result.{IfOk-weaker}
 use Rattle.std.specs.Prelude.{string_bytes}
 use Rattle.rm_base.specs.declared.event.Event.TheVariants as event
 use Rattle.sessions.specs.Commands as request
-use Rattle.sessions.specs.SessionNames.{Named, session_named}
+use Rattle.sessions.specs.SessionNames.{NamedSession, session_named}
 use Rattle.sessions.specs.Texts.{line_text}
 use Rattle.sessions.specs.Turns.{ScriptState, called}
 use Rattle.sessions.proofs.HeldLaws.{found-at}
@@ -16,7 +16,7 @@ returns c =
     let x = c.index.result.now in
     let names = ap (λ (t : ScriptState). t.names) c.self.view_is in
     let there = found-at c.self.inside.held.items s.names c.args.session c.args.place x names c.requires c.index.ensures in
-    let named_so = ap (λ (l : List Named). session_named l c.args.session) (sym names) ∙ there.session in
+    let named_so = ap (λ (l : List NamedSession). session_named l c.args.session) (sym names) ∙ there.session in
     IfOk-weaker c.line_text.result _ _
     (λ text is. does-request s c.call-reply.new.self c.args.session x.session.number (request.SetPool c.args.pool) (event.SetPool c.number.result c.args.pool) (line_text c.args.session) c.call-reply.result
     (string_bytes text) named_so
