@@ -4,3 +4,5 @@ pub mod Turns
 pub mod Keeping
 pub mod Seen
 pub mod Standing
+pub mod Folding
+pub mod Moving

@@ -1,5 +1,5 @@
 -- What the fields of open accounts say of the accounts as they are seen.
-use Rattle.std.proofs.Common.{◌≡◌, ℕ, ◌+◌, ◌-◌, max, Option, Some, None, List, [], ◌∷◌, ◌++◌, ap, sym, ◌∙◌, sum_by, position, take, get_or, remove}
+use Rattle.std.proofs.Common.{◌≡◌, ℕ, ◌+◌, ◌-◌, max, Option, Some, None, List, [], ◌∷◌, ◌++◌, ap, sym, ◌∙◌, sum_by, map, position, take, get_or, remove}
 use Rattle.rm_base.specs.declared.definitions.Definitions.{Definitions}
 use Rattle.rm_base.specs.declared.entry.Account.{Account}
 use Rattle.rm_base.specs.declared.name.Name.{Name}
@@ -8,10 +8,12 @@ use Rattle.rm_rules.specs.declared.state.Holding.{Holding}
 use Rattle.rm_rules.specs.declared.state.Reserve.{Reserve}
 use Rattle.rm_rules.specs.Definitions.{total}
 use Rattle.rm_rules.specs.Holdings.{Holdings}
+use Rattle.rm_rules.specs.State.{without}
 use Rattle.rm_rules.specs.Accounting.{used, debt, kept_back, account_behind}
 use Rattle.rm_rules.specs.Shuffle.{grown_reserves, shuffled}
 use Rattle.rm_rules.proofs.Places.{without-found, without-absent, find-found, find-absent, before-found}
 use Rattle.accounts.specs.Accounts.{is_of, grant_of, before, no_account, account_of, taken, given_back, with_pool}
+use Rattle.accounts.specs.Moves.{moved_to, is_reserve_of, handed_over, folded}
 use Rattle.accounts.specs.Sizes.{fallen_reserves}
 
 -- a query more, and one pool more
@@ -24,6 +26,15 @@ pub pool-seen : (h a : Holdings) (es : List Reserve) (pool : Name) → h ≡ a �
     → record h { reserves = es } ≡ with_pool a pool
 pool-seen h a es pool same items =
     ap (λ (xs : List Reserve). let u : Holdings = record h { reserves = xs } in u) items ∙ ap (λ (x : Holdings). with_pool x pool) same
+
+-- without a pool, whose reserve is found at a place
+pub folded-seen : (h a : Holdings) (es : List Reserve) (gs : List Holding) (pool : Name) (i : ℕ) → h ≡ a → es ≡ remove h.reserves i
+    → position (is_reserve_of pool) a.reserves ≡ Some i → gs ≡ map (handed_over pool) h.grants
+    → record h { reserves = es; grants = gs } ≡ folded a pool
+folded-seen h a es gs pool i same rest found handed =
+    let place : position (is_reserve_of pool) h.reserves ≡ Some i = ap (λ (x : Holdings). position (is_reserve_of pool) x.reserves) same ∙ found in
+    let reserves : es ≡ without (is_reserve_of pool) h.reserves = rest ∙ sym (without-found (is_reserve_of pool) h.reserves i place) in
+    (λ j. record { in_force = h.in_force; reserves = reserves j; grants = handed j }) ∙ ap (λ (x : Holdings). folded x pool) same
 
 -- a query is found at a place, or it does not run
 pub given-seen : (h a : Holdings) (gs : List Holding) (query i : ℕ) → h ≡ a → gs ≡ remove h.grants i → position (is_of query) a.grants ≡ Some i
@@ -44,6 +55,15 @@ grant-found a gs query i g same found there =
 
 pub grant-absent : (gs : List Holding) (query : ℕ) → let o : Option ℕ = None in position (is_of query) gs ≡ o → 0 ≡ grant_of gs query
 grant-absent gs query absent = sym (ap (λ (o : Option Holding). elim o [ Some x ↦ x.bytes | None ↦ 0 ]) (find-absent (is_of query) gs absent))
+
+-- it is found at a place, and goes on behind the others
+pub moved-seen : (h a : Holdings) (gs new : List Holding) (query i : ℕ) (pool : Name) (g : Holding) → h ≡ a → gs ≡ remove h.grants i
+    → position (is_of query) a.grants ≡ Some i → g ≡ get_or h.grants i g → new ≡ gs ++ record { query = query; pool = pool; bytes = g.bytes } ∷ []
+    → record h { grants = new } ≡ moved_to a query pool
+moved-seen h a gs new query i pool g same rest found there items =
+    let left : Holdings = record h { grants = gs } in
+    taken-seen left (given_back a query) new query pool g.bytes (given-seen h a gs query i same rest found) items
+    ∙ ap (λ (n : ℕ). taken (given_back a query) query pool n) (grant-found a h.grants query i g (ap (λ (x : Holdings). x.grants) same) found there)
 
 -- its account
 abbrev in_account : Holdings → ℕ → Option Holding → Account

@@ -1,3 +1,4 @@
 pub mod Accounts
 pub mod Kept
+pub mod Moves
 pub mod Sizes

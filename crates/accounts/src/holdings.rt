@@ -1,10 +1,12 @@
 //! The accounts of the running queries.
 ghost use Rattle.std.specs.Prelude.{◌≡◌, ◌<◌, ◌≤◌, ◌+◌, ◌^◌, true, false, length, position, slice_index, IfOk, IfSome};
 ghost use Rattle.rm_base.specs.declared.limits.TheConstants.{MEMORY_MOST, POOLS_MOST, SESSIONS_MOST};
+ghost use Rattle.rm_base.specs.Name.{same_name, general};
 ghost use Rattle.rm_rules.specs.Sound.{IsSound};
 ghost use Rattle.accounts.specs.Sizes.{held};
 
 use crate::bytes::{kept_back, lent, running_in, used};
+use crate::moves::{IfMoved, hand_over, lent_beside, running_beside, unused_beside, used_beside};
 use crate::sizes::{fall, first_reserves, grow};
 use rm_base::bounded::Bounded;
 use rm_base::definitions::Definitions;
@@ -41,6 +43,7 @@ impl Accounts {
     ghost use Rattle.rm_rules.specs.Accounting.{used, running_in, reserve_of, actual_of, own_of, unused_of, lent, free, need, account_behind};
     ghost use Rattle.rm_rules.specs.Shuffle.{shuffled};
     ghost use Rattle.accounts.specs.Accounts.{names_in, has_name, is_of, has_query, queries, grant_of, account_of, first_holdings, taken, given_back, with_pool};
+    ghost use Rattle.accounts.specs.Moves.{if_moved, moved_to, is_reserve_of, folded};
 
     /// No query runs yet. All memory that the accounts will ever use is taken here.
     pub fn new(alloc: Global, definitions: &Definitions) -> Result<Accounts, AllocError>
@@ -167,6 +170,7 @@ impl Accounts {
     fn place_of(&self, query: u64) -> Option<usize>
         ensures value { result ≡ position (is_of query) self.now.grants }
         ensures within { IfSome result (λ place. place < length self.now.grants) }
+        ensures most { length self.now.grants ≤ SESSIONS_MOST }
     {
         let grants = self.grants.rows();
         grants.iter().position(|g| g.query == query)
@@ -232,6 +236,63 @@ impl Accounts {
             Some(place) => self.grants.remove(place).bytes,
             None => 0,
         }
+    }
+
+    /// What decides whether the pool takes the query, which is taken out of the running ones for this, with all else as it is.
+    pub fn if_moved(&self, query: u64, pool: Name) -> IfMoved
+        requires runs { has_query self.now.grants query ≡ true }
+        ensures value { result ≡ if_moved self.now query pool }
+        ensures used_most { result.used ≤ MEMORY_MOST }
+    {
+        let place = self.place_of(query).unwrap();
+        let grants = self.grants.rows();
+        let (before, behind) = (&grants[..place], &grants[place + 1..]);
+        let bytes = grants[place].bytes;
+        let unused = match self.reserve_of(pool) {
+            Some(e) => unused_beside(before, behind, &e),
+            None => 0,
+        };
+        let lent = lent_beside(before, behind, self.reserves.rows());
+        IfMoved {
+            need: bytes - bytes.min(unused),
+            free: self.in_force - kept_back(self.reserves.rows()) - lent,
+            used: used_beside(before, behind, pool),
+            lent,
+            running: running_beside(before, behind, pool) as u32,
+        }
+    }
+
+    /// A query goes on in another pool with the same grant: it leaves its place, and joins the others behind them.
+    pub fn move_to(&mut self, query: u64, pool: Name)
+        requires runs { has_query self.old.grants query ≡ true }
+        requires known { has_name self.old.reserves pool ≡ true }
+        requires fits { (if_moved self.old query pool).need ≤ (if_moved self.old query pool).free }
+        ensures { self.new ≡ moved_to self.old query pool }
+    {
+        let place = self.place_of(query).unwrap();
+        let bytes = self.grants.remove(place).bytes;
+        let moved = Holding { query, pool, bytes };
+        self.grants.add(moved);
+    }
+
+    /// Where the pool's reserve stands.
+    fn place_of_reserve(&self, pool: Name) -> Option<usize>
+        ensures value { result ≡ position (is_reserve_of pool) self.now.reserves }
+        ensures within { IfSome result (λ place. place < length self.now.reserves) }
+    {
+        let reserves = self.reserves.rows();
+        reserves.iter().position(|e| e.pool.same(pool))
+    }
+
+    /// A pool is gone: its bytes go back to GENERAL, and its queries become GENERAL's, in their places and with their grants.
+    pub fn fold_into_general(&mut self, pool: Name)
+        requires known { has_name self.old.reserves pool ≡ true }
+        requires not_general { same_name pool general ≡ false }
+        ensures { self.new ≡ folded self.old pool }
+    {
+        let place = self.place_of_reserve(pool).unwrap();
+        self.reserves.remove(place);
+        hand_over(&mut self.grants, pool);
     }
 
     /// One pool more, behind the others. It has no bytes of its own until the sizes are shuffled.

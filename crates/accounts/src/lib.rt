@@ -4,6 +4,8 @@
 mod bytes;
 mod holdings;
 pub mod laws;
+mod moves;
 mod sizes;
 
 pub use crate::holdings::Accounts;
+pub use crate::moves::IfMoved;

@@ -1,5 +1,5 @@
 -- A waiting query by its number and by its session.
-use Rattle.std.proofs.Common.{◌≡◌, ◌≤◌, ℕ, ◌+◌, Bool, true, false, ◌||◌, nat_eq, Option, Some, unwrap_or, option_map, List, [], ◌∷◌, ◌++◌, length, find, count_by, position, refl, ap, sym, ◌∙◌, arith}
+use Rattle.std.proofs.Common.{◌≡◌, ◌≤◌, ℕ, ◌+◌, Bool, true, ◌||◌, nat_eq, Option, Some, unwrap_or, option_map, List, [], ◌∷◌, ◌++◌, length, find, count_by, position, ap, sym, ◌∙◌, arith}
 use Rattle.std.proofs.Math.Bool.{or-true}
 use Rattle.rm_rules.specs.declared.state.Waiter.{Waiter}
 use Rattle.rm_rules.specs.State.{without, without_waiter}

@@ -4,6 +4,7 @@
 mod deadlines;
 mod heads;
 pub mod laws;
+mod transfer;
 mod waiting;
 
 pub use crate::deadlines::deadline;

@@ -5,10 +5,12 @@ ghost use Rattle.rm_rules.specs.Sound.{IsSound};
 
 use crate::deadlines::{is_due, is_nowait};
 use crate::heads::{Candidates, has_earlier, head_of};
+use crate::transfer::{part, rename};
 use rm_base::bounded::Bounded;
 use rm_base::definitions::Definitions;
 use rm_base::limits::SESSIONS_MOST;
 use rm_base::moment::Moment;
+use rm_base::name::Name;
 use rm_rules::room::Room;
 use rm_rules::state::Waiter;
 use std::alloc::{AllocError, Global};
@@ -34,6 +36,7 @@ impl Queue {
     ghost use Rattle.rm_rules.specs.Admission.{first_in_queue};
     ghost use Rattle.rm_rules.specs.Deadlines.{is_due, is_nowait};
     ghost use Rattle.pool_queue.specs.Queue.{is_query, has_query, query_of, place_of_query, are_pools_known, is_large};
+    ghost use Rattle.pool_queue.specs.Transfer.{transferred};
 
     /// No query waits yet. All memory that the queue will ever use is taken here.
     pub fn new(alloc: Global) -> Result<Queue, AllocError>
@@ -71,6 +74,15 @@ impl Queue {
     {
         let index = self.index_of(query).unwrap();
         self.waiting.remove(index)
+    }
+
+    /// All queries that wait in the pool become GENERAL's, with their queued moments and in their order: before all others
+    /// where they are to be in front, else behind them.
+    pub fn transfer(&mut self, from: Name, front: bool)
+        ensures items { self.new ≡ transferred self.old from front }
+    {
+        part(&mut self.waiting, from, front);
+        rename(&mut self.waiting, from);
     }
 
     /// The first query whose deadline is at this moment or before it.
