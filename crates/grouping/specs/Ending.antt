@@ -1,9 +1,11 @@
 -- What groups end with.
 use Rattle.std.specs.Prelude.{◌≡◌, ◌≤◌, ℕ, Bool, ◌&&◌, List, Some, None, IsPermutation, nat_le, ⊤}
 use Rattle.rm_base.specs.declared.select.GroupSpec.{GroupSpec}
+use Rattle.rm_base.specs.declared.select.OrderSpec.{OrderSpec}
 use Rattle.rm_base.specs.declared.value.Value.{Value}
 use Rattle.rm_rules.specs.AllFits.{group_rows_fit, groups_charge}
 use Rattle.rm_rules.specs.Grouping.{first_bad, grouped}
+use Rattle.rm_rules.specs.Ordering.{in_order}
 use Rattle.grouping.specs.declared.group.Grouped.{Grouped}
 use Rattle.grouping.specs.declared.group.Grouped.TheVariants as out
 use Rattle.grouping.specs.declared.groups.GroupsEnd.{GroupsEnd}
@@ -14,7 +16,12 @@ abbrev pub IsGrouped : GroupSpec → List (List Value) → GroupsEnd → Type 0
 IsGrouped spec rows (end.Rows out) = (first_bad spec rows ≡ None) × IsPermutation (grouped spec rows) out
 IsGrouped spec rows (end.SumOutOfRange column sum) = first_bad spec rows ≡ Some (column, sum)
 
--- the same of a run of their rows
+-- the first rows of the groups in order, or the first sum out of range
+abbrev pub IsGroupedInOrder : GroupSpec → OrderSpec → List (List Value) → GroupsEnd → Type 0
+IsGroupedInOrder spec order rows (end.Rows out) = (first_bad spec rows ≡ None) × (out ≡ in_order order (grouped spec rows))
+IsGroupedInOrder spec order rows (end.SumOutOfRange column sum) = first_bad spec rows ≡ Some (column, sum)
+
+-- a run of the rows of the groups in any order, or the first sum out of range
 abbrev pub IsGroupedRun : GroupSpec → List (List Value) → Grouped → Type 0
 IsGroupedRun spec rows (out.Rows run) = (first_bad spec rows ≡ None) × IsPermutation (grouped spec rows) run.rows
 IsGroupedRun spec rows (out.SumOutOfRange column sum) = first_bad spec rows ≡ Some (column, sum)

@@ -46,7 +46,7 @@ fn is_shown_behind(keys: &[OrderKey], front: &[Row], items: &[Item], tuple: Tupl
 }
 
 /// Puts rows in order, and lets go those behind the LIMIT. It takes no memory.
-pub fn put_in_order(order: &OrderSpec, rows: &mut Vec<Row>)
+fn put_in_order(order: &OrderSpec, rows: &mut Vec<Row>)
     ensures { rows.new.items ≡ in_order order.now rows.old.items }
 {
     sort_rows(order.keys.as_slice(), rows);

@@ -5,16 +5,18 @@ ghost use Rattle.std.specs.Option.{unwrap_or};
 ghost use Rattle.rm_base.specs.declared.value.Value.TheVariants.{Null};
 ghost use Rattle.rm_base.specs.Values.{rows_measure};
 ghost use Rattle.rm_rules.specs.Grouping.{is_int64, key_value};
+ghost use Rattle.rm_rules.specs.Ordering.{in_order};
 ghost use Rattle.spill_files.specs.declared.error.RunError.TheVariants.{NeedsSpill};
 ghost use Rattle.spill_files.specs.Errors.{IsOfMemory};
 ghost use Rattle.grouping.specs.Finishing.{bad_at, bad_from, bad_sum, cell, cells, count_cell, group_cmp, total_cell};
 ghost use Rattle.tuples.specs.Known.{known};
 
+use crate::batch::Batch;
 use crate::tallies::Tallies;
 use crate::tally::Tally;
 use crate::totals::Sums;
 use rm_base::row::Row;
-use rm_base::select::Item;
+use rm_base::select::{Item, OrderSpec};
 use rm_base::value::Value;
 use spill_files::error::RunError;
 use std::alloc::{AllocError, Global};
@@ -24,7 +26,7 @@ use tuples::tuple::Tuple;
 fn is_int64(n: i128) -> bool
     ensures { result ≡ is_int64 n }
 {
-    !n.cmp(&-9223372036854775808).is_lt() && n.cmp(&9223372036854775808).is_lt()
+    n >= i64::MIN as i128 && n <= i64::MAX as i128
 }
 
 fn bad_tally(tally: &Tally) -> Option<i128>
@@ -97,10 +99,9 @@ pub fn sort_groups(groups: &mut [(Row, Tallies)])
 fn count_cell(n: u64) -> Value
     ensures { result ≡ count_cell n }
 {
-    if n < 9223372036854775808 {
-        Value::Int(n as i64)
-    } else {
-        Value::Null
+    match i64::try_from(n) {
+        Ok(n) => Value::Int(n),
+        Err(_) => Value::Null,
     }
 }
 
@@ -109,10 +110,9 @@ fn total_cell(sums: &Sums) -> Value
 {
     if 0 < sums.count() {
         let sum = sums.sum();
-        if is_int64(sum) {
-            Value::Int(sum as i64)
-        } else {
-            Value::Null
+        match i64::try_from(sum) {
+            Ok(sum) => Value::Int(sum),
+            Err(_) => Value::Null,
         }
     } else {
         Value::Null
@@ -196,4 +196,25 @@ pub fn cell_rows(
         charge += bytes;
     }
     Ok(rows)
+}
+
+/// The first rows of groups in order. All their rows may measure as much as the room.
+pub fn first_cell_rows(
+    alloc: Global,
+    keys: &[u32],
+    order: &OrderSpec,
+    groups: &[(Row, Tallies)],
+    room: u64,
+) -> Result<Vec<Row>, RunError>
+    requires { room < 2 ^ 64 - 1 }
+    ensures rows { IfOk result (λ rows. rows.items ≡ in_order order.now (cells keys.now groups.now)) }
+    ensures fits { OnOk result (rows_measure (cells keys.now groups.now) ≤ room) }
+    ensures spills { IfErr result (λ e. e ≡ NeedsSpill → room < rows_measure (cells keys.now groups.now)) }
+    ensures only { IfErr result IsOfMemory }
+{
+    let mut batch = Batch::new(alloc, order, room)?;
+    for group in groups {
+        batch.add(cell_row(alloc, keys, group)?)?;
+    }
+    Ok(batch.finish())
 }

@@ -12,20 +12,20 @@ ghost use Rattle.spill_files.specs.declared.error.RunError.TheVariants.{NeedsSpi
 ghost use Rattle.spill_files.specs.Errors.{IsOfMemory};
 ghost use Rattle.tuples.specs.Hashing.{key_hash};
 ghost use Rattle.tuples.specs.Tuple.{tuple_values};
-ghost use Rattle.grouping.specs.Ending.{IsGrouped};
+ghost use Rattle.grouping.specs.Ending.{IsGrouped, IsGroupedInOrder};
 ghost use Rattle.grouping.specs.Finishing.{bad_from, groups_in_order};
 ghost use Rattle.grouping.specs.Gathering.{gathered, groups_seen, hashes_of, items_charge, keys_of, row_hash};
 ghost use Rattle.grouping.specs.Tallying.{all_added, tallies_of};
 ghost use Rattle.grouping.specs.declared.tally.Tally as one;
 
-use crate::cells::{cell_rows, first_bad, sort_groups};
+use crate::cells::{cell_rows, first_bad, first_cell_rows, sort_groups};
 use crate::keys::{has_key, key_of};
 use crate::places::Places;
 use crate::tallies::Tallies;
 use rm_base::limits::{BEST_CHARGE, COUNT_CHARGE};
 use rm_base::row::Row;
 use rm_base::row_list::RowList;
-use rm_base::select::{GroupSpec, Item};
+use rm_base::select::{GroupSpec, Item, OrderSpec};
 use spill_files::error::RunError;
 use std::alloc::{AllocError, Global};
 use std::marker::Model;
@@ -109,13 +109,14 @@ fn first_bad_in_order(items: &[Item], mut groups: Vec<(Row, Tallies)>) -> Option
     first_bad(items, &groups)
 }
 
-/// What groups end with: their rows in any order, or the first sum out of range, with its output column, counted from 1.
+/// What groups end with: their rows, or the first sum out of range, with its output column, counted from 1.
 #[derive(Debug, Drop)]
 pub enum GroupsEnd {
     Rows(RowList),
     SumOutOfRange(u32, i128),
 }
 
+/// With all rows of the groups, in any order.
 fn end_of(
     alloc: Global,
     spec: &GroupSpec,
@@ -134,6 +135,36 @@ fn end_of(
 {
     match first_bad(spec.items.as_slice(), &groups) {
         None => match cell_rows(alloc, spec.keys.as_slice(), &groups, room) {
+            Ok(rows) => Ok(GroupsEnd::Rows(RowList::of(rows))),
+            Err(error) => Err(error),
+        },
+        Some(_) => match first_bad_in_order(spec.items.as_slice(), groups) {
+            Some((column, sum)) => Ok(GroupsEnd::SumOutOfRange(column as u32, sum)),
+            None => unreachable!(),
+        },
+    }
+}
+
+/// With the first rows of the groups in order.
+fn ordered_end_of(
+    alloc: Global,
+    spec: &GroupSpec,
+    order: &OrderSpec,
+    groups: Vec<(Row, Tallies)>,
+    room: u64,
+) -> Result<GroupsEnd, RunError>
+    requires items { length spec.now.items < 2 ^ 32 - 1 }
+    requires room { room < 2 ^ 64 - 1 }
+    ensures ok { (rows : List (List cell.Value)) → length rows < 2 ^ 63 → groups.items ≡ groups_seen spec.now rows
+        → IfOk result (λ end. IsGroupedInOrder spec.now order.now rows end) }
+    ensures fits { (rows : List (List cell.Value)) → length rows < 2 ^ 63 → groups.items ≡ groups_seen spec.now rows
+        → OnOk result (group_rows_fit room (first_bad spec.now rows) (grouped spec.now rows) ≡ true) }
+    ensures spills { (rows : List (List cell.Value)) → length rows < 2 ^ 63 → groups.items ≡ groups_seen spec.now rows
+        → IfErr result (λ e. e ≡ NeedsSpill → group_rows_fit room (first_bad spec.now rows) (grouped spec.now rows) ≡ false) }
+    ensures only { IfErr result IsOfMemory }
+{
+    match first_bad(spec.items.as_slice(), &groups) {
+        None => match first_cell_rows(alloc, spec.keys.as_slice(), order, &groups, room) {
             Ok(rows) => Ok(GroupsEnd::Rows(RowList::of(rows))),
             Err(error) => Err(error),
         },
@@ -261,7 +292,7 @@ impl Groups {
         }
     }
 
-    /// What the groups give. The rows may measure as much as the room.
+    /// All rows that the groups give, in any order. They may measure as much as the room.
     pub fn finish(self, alloc: Global) -> Result<GroupsEnd, RunError>
         requires { length self.spec.items < 2 ^ 32 - 1 }
         ensures ok { (spec : spec_of.GroupSpec) (rows : List (List cell.Value))
@@ -281,5 +312,27 @@ impl Groups {
         let spec = self.spec;
         let groups = self.groups;
         end_of(alloc, &spec, groups, self.room)
+    }
+
+    /// The first rows in order that the groups give. All their rows may measure as much as the room.
+    pub fn finish_in_order(self, alloc: Global, order: &OrderSpec) -> Result<GroupsEnd, RunError>
+        requires { length self.spec.items < 2 ^ 32 - 1 }
+        ensures ok { (spec : spec_of.GroupSpec) (rows : List (List cell.Value))
+            → length rows < 2 ^ 63
+            → self ≡ gathered spec self.room rows
+            → IfOk result (λ end. IsGroupedInOrder spec order.now rows end) }
+        ensures fits { (spec : spec_of.GroupSpec) (rows : List (List cell.Value))
+            → length rows < 2 ^ 63
+            → self ≡ gathered spec self.room rows
+            → OnOk result (group_rows_fit self.room (first_bad spec rows) (grouped spec rows) ≡ true) }
+        ensures spills { (spec : spec_of.GroupSpec) (rows : List (List cell.Value))
+            → length rows < 2 ^ 63
+            → self ≡ gathered spec self.room rows
+            → IfErr result (λ e. e ≡ NeedsSpill → group_rows_fit self.room (first_bad spec rows) (grouped spec rows) ≡ false) }
+        ensures only { IfErr result IsOfMemory }
+    {
+        let spec = self.spec;
+        let groups = self.groups;
+        ordered_end_of(alloc, &spec, order, groups, self.room)
     }
 }

@@ -1,5 +1,5 @@
 -- rows that were given to a batch or to a table of groups
-use Rattle.std.proofs.Common.{◌≡◌, ℕ, ◌+◌, ◌<◌, ◌≤◌, ◌^◌, true, false, ◌&&◌, le-leb, Option, Some, None, Result, Ok, Err, List, [], ◌∷◌, ◌++◌, map, length, sym, ap, ◌∙◌, subst, arith, IsPermutation}
+use Rattle.std.proofs.Common.{◌≡◌, ℕ, ◌+◌, ◌<◌, ◌≤◌, ◌^◌, true, false, ◌&&◌, le-leb, Option, Some, None, Result, Ok, Err, List, [], ◌∷◌, ◌++◌, map, length, sym, ap, ◌∙◌, subst, arith}
 use Rattle.std.specs.Prelude.{ℤ, OnOk, IfErr}
 use Rattle.std.proofs.lemmas.List.{map-append}
 use Rattle.std.proofs.lemmas.List.Sums.{sum_by-append, sum_by-cons}
@@ -13,7 +13,6 @@ use Rattle.rm_rules.specs.AllFits.{group_rows_fit, groups_charge, result_fits}
 use Rattle.rm_rules.specs.Grouping.{first_bad, grouped}
 use Rattle.rm_rules.specs.Meaning.{answer_of, meant, meant_groups, meant_of, shown}
 use Rattle.rm_rules.specs.Ordering.{in_order}
-use Rattle.rm_rules.proofs.OrderLaws.{in_order_along}
 use Rattle.spill_files.specs.declared.error.RunError.{RunError}
 use Rattle.spill_files.specs.declared.error.RunError.TheVariants.{NeedsSpill}
 use Rattle.grouping.specs.Batching.{Batched, Takes}
@@ -160,10 +159,10 @@ gives_few select room rows (Shown batch) given few = tt
 gives_few select room rows (Grouped groups) given few =
     omega (arith, ap (λ (g : Gathered). length g.spec.items) given.are, few (λ none. some_not_none select.groups given.keys given.grouped none))
 
-pub groups_end : (order : OrderSpec) (spec : GroupSpec) (rows out ordered : List (List Value)) → first_bad spec rows ≡ None → IsPermutation (grouped spec rows) out
-    → ordered ≡ in_order order out → meant_groups (first_bad spec rows) order (grouped spec rows) ≡ answer_of ordered
-groups_end order spec rows out ordered none moved is =
-    ap (λ (bad : Option (ℕ × ℤ)). meant_groups bad order (grouped spec rows)) none ∙ ap answer_of (in_order_along order (grouped spec rows) out moved ∙ sym is)
+pub groups_end : (order : OrderSpec) (spec : GroupSpec) (rows ordered : List (List Value)) → first_bad spec rows ≡ None → ordered ≡ in_order order (grouped spec rows)
+    → meant_groups (first_bad spec rows) order (grouped spec rows) ≡ answer_of ordered
+groups_end order spec rows ordered none is =
+    ap (λ (bad : Option (ℕ × ℤ)). meant_groups bad order (grouped spec rows)) none ∙ ap answer_of (sym is)
 
 pub always : {T P : Type 0} (r : Result T RunError) → P → OnOk r P
 always (Ok x) h = h

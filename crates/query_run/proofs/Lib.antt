@@ -1,4 +1,3 @@
-pub mod Fitting
 pub mod Gathered
 pub mod Looping
 pub mod Outcomes

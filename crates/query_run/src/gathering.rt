@@ -2,11 +2,12 @@
 
 ghost use Rattle.std.specs.Prelude.{◌≡◌, ◌<◌, ◌++◌, ◌^◌, ◌∷◌, [], ℕ, List, None, true, false, length, ◌≤◌, IfOk, IfErr, OnOk};
 ghost use Rattle.rm_base.specs.declared.select.GroupSpec as spec_of;
+ghost use Rattle.rm_base.specs.declared.select.OrderSpec as order_of;
 ghost use Rattle.rm_base.specs.declared.value.Value as cell;
 ghost use Rattle.rm_rules.specs.AllFits.{result_fits};
 ghost use Rattle.rm_rules.specs.Grouping.{first_bad, grouped};
-ghost use Rattle.rm_rules.specs.Meaning.{meant, meant_groups};
-ghost use Rattle.grouping.specs.Ending.{IsGrouped};
+ghost use Rattle.rm_rules.specs.Meaning.{answer_of, meant, meant_groups};
+ghost use Rattle.grouping.specs.Ending.{IsGroupedInOrder};
 ghost use Rattle.spill_files.specs.declared.error.RunError.TheVariants.{NeedsSpill};
 ghost use Rattle.spill_files.specs.Errors.{stop_after};
 ghost use Rattle.tuples.specs.Tuple.{tuple_values};
@@ -14,27 +15,36 @@ ghost use Rattle.query_run.specs.Gathering.{Gathers, GivesFew, gathered_charge};
 ghost use Rattle.query_run.specs.Running.{IsEndOf, stop_of};
 ghost use Rattle.query_run.specs.Running.RunOutcome.{Meant};
 
-use crate::answer::answer_of;
 use crate::run::RunEnd;
-use grouping::batch::{Batch, put_in_order};
+use grouping::answer::{Ordered, answer_of};
+use grouping::batch::Batch;
 use grouping::groups::{Groups, GroupsEnd};
-use rm_base::select::{GroupSpec, OrderSpec, Select};
+use rm_base::row::Row;
+use rm_base::select::{GroupSpec, Select};
 use spill_files::error::RunError;
 use std::alloc::Global;
 use tuples::tuple::Tuple;
 
+/// The end of a run with these rows.
+fn answered(rows: Vec<Row>) -> RunEnd
+    ensures outcome { IsEndOf (Meant (answer_of rows.items)) result }
+    ensures going { stop_of result ≡ None }
+{
+    match answer_of(rows) {
+        Ordered::Rows(rows) => RunEnd::Answer(rows),
+        Ordered::AnswerTooLarge(count) => RunEnd::AnswerTooLarge(count),
+    }
+}
+
 /// The end of a run with these groups.
-fn end_of(order: &OrderSpec, groups: GroupsEnd) -> RunEnd
-    ensures outcome { (spec : spec_of.GroupSpec) (rows : List (List cell.Value)) → IsGrouped spec rows groups
-        → IsEndOf (Meant (meant_groups (first_bad spec rows) order.now (grouped spec rows))) result }
+fn end_of(groups: GroupsEnd) -> RunEnd
+    ensures outcome { (spec : spec_of.GroupSpec) (order : order_of.OrderSpec) (rows : List (List cell.Value))
+        → IsGroupedInOrder spec order rows groups
+        → IsEndOf (Meant (meant_groups (first_bad spec rows) order (grouped spec rows))) result }
     ensures going { stop_of result ≡ None }
 {
     match groups {
-        GroupsEnd::Rows(rows) => {
-            let mut rows = rows.into_vec();
-            put_in_order(order, &mut rows);
-            answer_of(rows)
-        }
+        GroupsEnd::Rows(rows) => answered(rows.into_vec()),
         GroupsEnd::SumOutOfRange(column, sum) => RunEnd::SumOutOfRange(column, sum),
     }
 }
@@ -93,10 +103,10 @@ impl Gathering {
         ensures going { IfOk result (λ end. stop_of end ≡ None) }
     {
         match self {
-            Gathering::Shown(batch) => Ok(answer_of(batch.finish())),
+            Gathering::Shown(batch) => Ok(answered(batch.finish())),
             Gathering::Grouped(groups) => {
-                let end = groups.finish(alloc)?;
-                Ok(end_of(&select.order, end))
+                let end = groups.finish_in_order(alloc, &select.order)?;
+                Ok(end_of(end))
             }
         }
     }
