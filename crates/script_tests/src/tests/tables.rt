@@ -211,10 +211,10 @@ fn a_shelf_that_fails_ends_the_script(rt: HostRuntime) -> Result<(), Fail> {
     blames_the_shelf(&rt, rt.alloc(), 2, FAILING_LATER)
 }
 
-/// A file of so many bytes, which begins as a table does.
-fn long_file(alloc: Global, length: usize) -> Result<Vec<u8>, Fail> {
-    let mut bytes = vec![in alloc; b'\n'; length]?;
-    bytes[0] = b'n';
+/// A file with a header and so many line ends.
+fn long_file(alloc: Global, feeds: usize) -> Result<Vec<u8>, Fail> {
+    let mut bytes = b"n".to_vec(alloc)?;
+    bytes.extend_from_slice(&vec![in alloc; b'\n'; feeds]?)?;
     Ok(bytes)
 }
 
@@ -233,11 +233,11 @@ fn a_long_file_is_refused(rt: HostRuntime) -> Result<(), Fail> {
     let mut shelf = MemoryShelf::new(alloc);
     shelf.put(
         String::from_str(alloc, "most.csv")?,
-        long_file(alloc, 67_108_864)?,
+        long_file(alloc, 67_108_863)?,
     )?;
     shelf.put(
         String::from_str(alloc, "long.csv")?,
-        long_file(alloc, 67_108_865)?,
+        long_file(alloc, 67_108_864)?,
     )?;
     run_over(&rt, alloc, &mut shelf, LONG)
 }
