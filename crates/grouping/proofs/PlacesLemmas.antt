@@ -1,11 +1,11 @@
 -- The last places of numbers in a list that grows.
-use Rattle.std.proofs.Common.{◌≡◌, ℕ, zero, suc, ◌+◌, ◌≤◌, ◌<◌, Bool, true, false, cond, List, [], ◌∷◌, ◌++◌, length, take, get_or, nat_eq, refl, sym, ap, ◌∙◌, subst, arith, Option, Some, ⊎_elim}
-use Rattle.std.specs.Option.{unwrap_or}
+use Rattle.std.proofs.Common.{◌≡◌, ℕ, zero, suc, ◌+◌, ◌≤◌, ◌<◌, Bool, true, false, true≢false, cond, List, [], ◌∷◌, ◌++◌, length, take, get_or, set, nat_eq, refl, sym, ap, ◌∙◌, subst, arith, ⊎_elim}
 use Rattle.std.proofs.lemmas.Bool.{cases_lt}
 use Rattle.std.proofs.lemmas.Bool.Decides.{nat_tests}
-use Rattle.std.proofs.lemmas.List.{length-append, get_or_append_left, take-append-le}
+use Rattle.std.proofs.lemmas.List.{length-append, length-map, length-set, map-append, get_or_append_left, get_or_default, get_or-set_other, take-append-le}
+use Rattle.std.proofs.lemmas.Grind.{get_or-set_at}
 use Rattle.std.proofs.Math.Seq.{get_or-append_seam}
-use Rattle.grouping.specs.Places.{last_place, IsLinked}
+use Rattle.grouping.specs.Places.{bucket, buckets, last_place, IsLinked}
 
 -- one number more
 pub last_place-append : (n x : ℕ) (xs : List ℕ) → last_place n (xs ++ x ∷ []) ≡ cond (nat_eq x n) (suc (length xs)) (last_place n xs)
@@ -22,14 +22,20 @@ take_front : {X : Type 0} (xs more : List X) → take (length xs) (xs ++ more) �
 take_front [] more = refl
 take_front (x ∷ xs) more = ap (λ l. x ∷ l) (take_front xs more)
 
-leads_more : (numbers : List ℕ) (old new : Option ℕ) (n q place : ℕ) → unwrap_or old 0 ≡ last_place q numbers → place ≡ length numbers + 1
-    → new ≡ cond (nat_eq n q) (Some place) old → unwrap_or new 0 ≡ last_place q (numbers ++ n ∷ [])
-leads_more numbers old new n q place was at is = go (nat_eq n q) is (last_place-append q n numbers)
+itself : (n : ℕ) → nat_eq n n ≡ true
+itself n = grind (arith, nat_tests)
+
+leads_more : (numbers last : List ℕ) (n q place : ℕ) → q < length last → n < length last → get_or last q 0 ≡ last_place q numbers → place ≡ length numbers + 1
+    → get_or (set last n place) q 0 ≡ last_place q (numbers ++ n ∷ [])
+leads_more numbers last n q place within there was at = go (nat_eq n q) refl (last_place-append q n numbers)
   where
-    go : (b : Bool) → new ≡ cond b (Some place) old → last_place q (numbers ++ n ∷ []) ≡ cond b (suc (length numbers)) (last_place q numbers)
-        → unwrap_or new 0 ≡ last_place q (numbers ++ n ∷ [])
-    go true h k = ap (λ o. unwrap_or o 0) h ∙ omega (arith, at, k)
-    go false h k = ap (λ o. unwrap_or o 0) h ∙ was ∙ sym k
+    go : (b : Bool) → nat_eq n q ≡ b → last_place q (numbers ++ n ∷ []) ≡ cond b (suc (length numbers)) (last_place q numbers)
+        → get_or (set last n place) q 0 ≡ last_place q (numbers ++ n ∷ [])
+    go true test k =
+        let same : q ≡ n = grind (arith, nat_tests, test) in
+        get_or-set_at last n q place 0 same there ∙ omega (arith, at, k)
+    go false test k =
+        get_or-set_other last n q place 0 (λ same. true≢false (sym (itself n) ∙ ap (nat_eq n) (sym same) ∙ test)) ∙ was ∙ sym k
 
 behind_front : (numbers before : List ℕ) (n earlier k : ℕ) → length before ≡ length numbers → k < length numbers
     → get_or before k 0 ≡ last_place (get_or numbers k 0) (take k numbers)
@@ -56,14 +62,27 @@ behind_more numbers before n earlier k len is within was =
     (cases_lt k (length numbers))
 
 -- a number is put behind the others
-pub linked_more : (numbers : List ℕ) (last next : ℕ → Option ℕ) (before : List ℕ) (n earlier place : ℕ) → IsLinked numbers last before
-    → earlier ≡ last_place n numbers → place ≡ length numbers + 1 → ((q : ℕ) → next q ≡ cond (nat_eq n q) (Some place) (last q))
-    → IsLinked (numbers ++ n ∷ []) next (before ++ earlier ∷ [])
-linked_more numbers last next before n earlier place linked is at moves = record {
+linked_more : (numbers last before : List ℕ) (n earlier place : ℕ) → IsLinked numbers last before → n < length last
+    → earlier ≡ get_or last n 0 → place ≡ length numbers + 1 → IsLinked (numbers ++ n ∷ []) (set last n place) (before ++ earlier ∷ [])
+linked_more numbers last before n earlier place linked there is at = record {
   len = omega (arith, length-append before (earlier ∷ []), length-append numbers (n ∷ []), linked.len);
-  leads = λ q. leads_more numbers (last q) (next q) n q place (linked.leads q) at (moves q);
-  behind = λ k within. behind_more numbers before n earlier k linked.len is within (linked.behind k);
+  leads = λ q within. let low : q < length last = omega (arith, within, length-set last n place) in
+      leads_more numbers last n q place low there (linked.leads q low) at;
+  behind = λ k within. behind_more numbers before n earlier k linked.len (is ∙ linked.leads n there) within (linked.behind k);
 }
+
+pub placed_more : (numbers last before : List ℕ) (number b earlier place : ℕ) (numbers_then last_then before_then : List ℕ)
+    → IsLinked (buckets (length last) numbers) last before → b ≡ bucket (length last) number → b < length last → earlier ≡ get_or last b earlier → place ≡ length numbers + 1
+    → numbers_then ≡ numbers ++ number ∷ [] → last_then ≡ set last b place → before_then ≡ before ++ earlier ∷ []
+    → IsLinked (buckets (length last_then) numbers_then) last_then before_then
+placed_more numbers last before number b earlier place numbers_then last_then before_then linked is there found at more set_is behind =
+    let count : length last_then ≡ length last = ap length set_is ∙ length-set last b place in
+    let placed : buckets (length last_then) numbers_then ≡ buckets (length last) numbers ++ b ∷ [] =
+    (λ i. buckets (count i) (more i)) ∙ map-append (bucket (length last)) numbers (number ∷ []) ∙ ap (λ n. buckets (length last) numbers ++ n ∷ []) (sym is) in
+    let all = linked_more (buckets (length last) numbers) last before b earlier place linked there (found ∙ get_or_default last b earlier 0 there) (omega (arith, at, length-map numbers (bucket (length last)))) in
+    subst (λ l. IsLinked l last_then before_then) (sym placed)
+    (subst (λ l. IsLinked (buckets (length last) numbers ++ b ∷ []) l before_then) (sym set_is)
+    (subst (IsLinked (buckets (length last) numbers ++ b ∷ []) (set last b place)) (sym behind) all))
 
 -- ---- what a last place tells
 

@@ -11,7 +11,7 @@ use Rattle.rm_rules.specs.Comparing.{column, columns}
 use Rattle.tuples.specs.Hashing.{key_hash, value_hash}
 use Rattle.grouping.specs.declared.tally.Tally.{Tally}
 use Rattle.grouping.specs.Gathering.{hashes_of, keys_of, row_hash}
-use Rattle.grouping.specs.Places.{last_place}
+use Rattle.grouping.specs.Places.{bucket, buckets, last_place}
 use Rattle.grouping.proofs.PlacesLemmas.{last_place-at, last_place-behind, last_place-within}
 
 abbrev Group : Type 0
@@ -25,67 +25,71 @@ key_hash-columns cs row = go 0 cs
     go h [] = refl
     go h (k ∷ ks) = go (value_hash h (column row k)) ks
 
-get_or-hashes : (gs : List Group) (k : ℕ) → k < length gs → get_or (hashes_of gs) k 0 ≡ row_hash (get_or (keys_of gs) k [])
-get_or-hashes [] k within = absurd (omega (arith, within))
-get_or-hashes (g ∷ gs) zero within = refl
-get_or-hashes (g ∷ gs) (suc k) within = get_or-hashes gs k (omega (arith, within))
+-- the buckets of the groups' keys, of so many
+abbrev buckets_of : ℕ → List Group → List ℕ
+buckets_of count gs = buckets count (hashes_of gs)
+
+get_or-buckets : (count : ℕ) (gs : List Group) (k : ℕ) → k < length gs → get_or (buckets_of count gs) k 0 ≡ bucket count (row_hash (get_or (keys_of gs) k []))
+get_or-buckets count [] k within = absurd (omega (arith, within))
+get_or-buckets count (g ∷ gs) zero within = refl
+get_or-buckets count (g ∷ gs) (suc k) within = get_or-buckets count gs k (omega (arith, within))
 
 itself : (n : ℕ) → nat_eq n n ≡ true
 itself n = grind (arith, nat_tests)
 
--- a key with another hash is another key
-another : (gs : List Group) (key : List Value) (hash k : ℕ) → hash ≡ row_hash key → k < length gs → nat_eq (get_or (hashes_of gs) k 0) hash ≡ false
+-- a key in another bucket is another key
+another : (count : ℕ) (gs : List Group) (key : List Value) (b k : ℕ) → b ≡ bucket count (row_hash key) → k < length gs → nat_eq (get_or (buckets_of count gs) k 0) b ≡ false
     → same_row key (get_or (keys_of gs) k []) ≡ false
-another gs key hash k is within apart = go (same_row key (get_or (keys_of gs) k [])) refl
+another count gs key b k is within apart = go (same_row key (get_or (keys_of gs) k [])) refl
   where
-    go : (b : Bool) → same_row key (get_or (keys_of gs) k []) ≡ b → b ≡ false
+    go : (t : Bool) → same_row key (get_or (keys_of gs) k []) ≡ t → t ≡ false
     go false h = refl
     go true h =
-        let same : get_or (hashes_of gs) k 0 ≡ hash =
-        get_or-hashes gs k within ∙ ap row_hash (sym (same_row-eq key (get_or (keys_of gs) k []) h)) ∙ sym is in
-        absurd (true≢false (sym (itself hash) ∙ ap (λ n. nat_eq n hash) (sym same) ∙ apart))
+        let same : get_or (buckets_of count gs) k 0 ≡ b =
+        get_or-buckets count gs k within ∙ ap (λ r. bucket count (row_hash r)) (sym (same_row-eq key (get_or (keys_of gs) k []) h)) ∙ sym is in
+        absurd (true≢false (sym (itself b) ∙ ap (λ n. nat_eq n b) (sym same) ∙ apart))
 
-length-hashes : (gs : List Group) → length (hashes_of gs) ≡ length gs
-length-hashes [] = refl
-length-hashes (g ∷ gs) = ap suc (length-hashes gs)
+length-buckets : (count : ℕ) (gs : List Group) → length (buckets_of count gs) ≡ length gs
+length-buckets count [] = refl
+length-buckets count (g ∷ gs) = ap suc (length-buckets count gs)
 
--- where a walk stands: at a place, counted from 1, of a hash, with no group of the key there or behind
-pub record Walks (gs : List Group) (key : List Value) (hash place : ℕ) : Type 0 where
+-- where a walk stands: at a place, counted from 1, of a bucket, with no group of the key behind
+pub record Walks (count : ℕ) (gs : List Group) (key : List Value) (b place : ℕ) : Type 0 where
   pub within : place ≤ length gs
-  pub at : (k : ℕ) → place ≡ suc k → get_or (hashes_of gs) k 0 ≡ hash
+  pub at : (k : ℕ) → place ≡ suc k → get_or (buckets_of count gs) k 0 ≡ b
   pub behind : (k : ℕ) → place ≤ k → k < length gs → same_row key (get_or (keys_of gs) k []) ≡ false
 
-pub walk_starts : (gs : List Group) (key : List Value) (hash place : ℕ) → hash ≡ row_hash key → place ≡ last_place hash (hashes_of gs) → Walks gs key hash place
-walk_starts gs key hash place is at = record {
-  within = omega (arith, at, last_place-within hash (hashes_of gs), length-hashes gs);
-  at = λ k h. last_place-at hash k (hashes_of gs) (sym at ∙ h);
-  behind = λ k h within. another gs key hash k is within
-      (last_place-behind hash k (hashes_of gs) (omega (arith, at, h)) (omega (arith, within, length-hashes gs)));
+pub walk_starts : (count : ℕ) (gs : List Group) (key : List Value) (b place : ℕ) → b ≡ bucket count (row_hash key) → place ≡ last_place b (buckets_of count gs) → Walks count gs key b place
+walk_starts count gs key b place is at = record {
+  within = omega (arith, at, last_place-within b (buckets_of count gs), length-buckets count gs);
+  at = λ k h. last_place-at b k (buckets_of count gs) (sym at ∙ h);
+  behind = λ k h within. another count gs key b k is within
+      (last_place-behind b k (buckets_of count gs) (omega (arith, at, h)) (omega (arith, within, length-buckets count gs)));
 }
 
-walk_back : (gs : List Group) (key : List Value) (hash place next : ℕ) → hash ≡ row_hash key → place < length gs
-    → Walks gs key hash (place + 1) → same_row key (get_or (keys_of gs) place []) ≡ false
-    → next ≡ last_place (get_or (hashes_of gs) place 0) (take place (hashes_of gs)) → Walks gs key hash next
-walk_back gs key hash place next is there walks other at = record {
+walk_back : (count : ℕ) (gs : List Group) (key : List Value) (b place next : ℕ) → b ≡ bucket count (row_hash key) → place < length gs
+    → Walks count gs key b (place + 1) → same_row key (get_or (keys_of gs) place []) ≡ false
+    → next ≡ last_place (get_or (buckets_of count gs) place 0) (take place (buckets_of count gs)) → Walks count gs key b next
+walk_back count gs key b place next is there walks other at = record {
   within = omega (arith, here, there);
-  at = λ k h. sym (get_or-take place (hashes_of gs) k 0 (omega (arith, here, h))) ∙ last_place-at hash k (take place (hashes_of gs)) (sym is_last ∙ h);
+  at = λ k h. sym (get_or-take place (buckets_of count gs) k 0 (omega (arith, here, h))) ∙ last_place-at b k (take place (buckets_of count gs)) (sym is_last ∙ h);
   behind = behind;
 }
   where
-    is_last : next ≡ last_place hash (take place (hashes_of gs))
-    is_last = at ∙ ap (λ n. last_place n (take place (hashes_of gs))) (walks.at place (omega arith))
+    is_last : next ≡ last_place b (take place (buckets_of count gs))
+    is_last = at ∙ ap (λ n. last_place n (take place (buckets_of count gs))) (walks.at place (omega arith))
 
-    front : length (take place (hashes_of gs)) ≡ place
-    front = omega (arith, length-take place (hashes_of gs), length-hashes gs, there)
+    front : length (take place (buckets_of count gs)) ≡ place
+    front = omega (arith, length-take place (buckets_of count gs), length-buckets count gs, there)
 
     here : next ≤ place
-    here = omega (arith, is_last, last_place-within hash (take place (hashes_of gs)), front)
+    here = omega (arith, is_last, last_place-within b (take place (buckets_of count gs)), front)
 
     before : (k : ℕ) → next ≤ k → k < place → k < length gs → same_row key (get_or (keys_of gs) k []) ≡ false
     before k h lt within =
-        another gs key hash k is within
-        (ap (λ n. nat_eq n hash) (sym (get_or-take place (hashes_of gs) k 0 lt))
-        ∙ last_place-behind hash k (take place (hashes_of gs)) (omega (arith, is_last, h)) (omega (arith, front, lt)))
+        another count gs key b k is within
+        (ap (λ n. nat_eq n b) (sym (get_or-take place (buckets_of count gs) k 0 lt))
+        ∙ last_place-behind b k (take place (buckets_of count gs)) (omega (arith, is_last, h)) (omega (arith, front, lt)))
 
     behind : (k : ℕ) → next ≤ k → k < length gs → same_row key (get_or (keys_of gs) k []) ≡ false
     behind k h within =
@@ -99,11 +103,11 @@ walk_back gs key hash place next is there walks other at = record {
         same : (j : ℕ) → place ≤ j → j ≤ place → place ≡ j
         same j p q = omega (arith, p, q)
 
-pub walk_goes : (gs : List Group) (key : List Value) (hash start place next : ℕ) → hash ≡ row_hash key → start ≡ place + 1
-    → Walks gs key hash start → same_row key (get_or (keys_of gs) place []) ≡ false
-    → next ≡ last_place (get_or (hashes_of gs) place 0) (take place (hashes_of gs)) → Walks gs key hash next
-walk_goes gs key hash start place next is step walks other at =
-    walk_back gs key hash place next is (omega (arith, step, walks.within)) (subst (Walks gs key hash) step walks) other at
+pub walk_goes : (count : ℕ) (gs : List Group) (key : List Value) (b start place next : ℕ) → b ≡ bucket count (row_hash key) → start ≡ place + 1
+    → Walks count gs key b start → same_row key (get_or (keys_of gs) place []) ≡ false
+    → next ≡ last_place (get_or (buckets_of count gs) place 0) (take place (buckets_of count gs)) → Walks count gs key b next
+walk_goes count gs key b start place next is step walks other at =
+    walk_back count gs key b place next is (omega (arith, step, walks.within)) (subst (Walks count gs key b) step walks) other at
 
 -- the key of a group at a place
 pub key_at : (gs : List Group) (place : ℕ) (g : Group) → place < length gs → g ≡ get_or gs place g → get_or (keys_of gs) place [] ≡ g.0

@@ -9,9 +9,9 @@ ghost use Rattle.rm_rules.specs.Ordering.{in_order};
 ghost use Rattle.spill_files.specs.declared.error.RunError.TheVariants.{NeedsSpill};
 ghost use Rattle.spill_files.specs.Errors.{IsOfMemory};
 ghost use Rattle.grouping.specs.Finishing.{bad_at, bad_from, bad_sum, cell, cells, count_cell, group_cmp, total_cell};
-ghost use Rattle.tuples.specs.Known.{known};
 
 use crate::batch::Batch;
+use crate::keys::copy;
 use crate::tallies::Tallies;
 use crate::tally::Tally;
 use crate::totals::Sums;
@@ -119,15 +119,6 @@ fn total_cell(sums: &Sums) -> Value
     }
 }
 
-fn copied(alloc: Global, value: Option<&Value>) -> Result<Value, AllocError>
-    ensures { IfOk result (λ copy. copy ≡ known value.entry) }
-{
-    match value {
-        Some(value) => value.copy(alloc),
-        None => Ok(Value::Null),
-    }
-}
-
 fn best_cell(alloc: Global, best: &Option<Value>) -> Result<Value, AllocError>
     ensures { IfOk result (λ copy. copy ≡ unwrap_or best.now Null) }
 {
@@ -142,7 +133,7 @@ fn key_value(alloc: Global, keys: &[u32], key: &[Value], c: u32) -> Result<Value
 {
     for place in 0..keys.len() {
         if keys[place] == c {
-            return copied(alloc, key.get(place));
+            return copy(alloc, key.get(place));
         }
     }
     Ok(Value::Null)

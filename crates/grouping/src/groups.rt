@@ -56,6 +56,21 @@ fn items_charge(items: &[Item]) -> u64
     charge
 }
 
+/// The place of the one group there is without columns to group by.
+fn sole_place(groups: &[(Row, Tallies)], keys: &[u32], tuple: Tuple) -> Option<usize>
+    ensures within { IfSome result (λ place. place < length groups.now) }
+    ensures found { IfSome result (λ place. slice_index_or (keys_of groups.now) place [] ≡ columns keys.now (tuple_values tuple.entry)) }
+{
+    if !keys.is_empty() || groups.is_empty() {
+        return None;
+    }
+    if has_key(keys, tuple, &groups[0].0) {
+        Some(0)
+    } else {
+        None
+    }
+}
+
 /// The place of the group with a tuple's key.
 fn place_of(
     groups: &[(Row, Tallies)],
@@ -64,12 +79,15 @@ fn place_of(
     hash: u64,
     tuple: Tuple,
 ) -> Option<usize>
-    requires places { places.now ≡ hashes_of groups.now }
+    requires places { places.now.numbers ≡ hashes_of groups.now }
     requires hash { hash ≡ key_hash keys.now (tuple_values tuple) }
     ensures within { IfSome result (λ place. place < length groups.now) }
     ensures found { IfSome result (λ place. slice_index_or (keys_of groups.now) place [] ≡ columns keys.now (tuple_values tuple.entry)) }
     ensures none { IfNone result (list_any (same_row (columns keys.now (tuple_values tuple.entry))) (keys_of groups.now) ≡ false) }
 {
+    if let Some(place) = sole_place(groups, keys, tuple) {
+        return Some(place);
+    }
     let mut place = places.last(hash);
     while place > 0 {
         place -= 1;
@@ -198,7 +216,7 @@ impl Model for Groups {
     ghost invariant = { λ g. (g.group_charge ≡ min (items_charge g.spec.items) (2 ^ 64 - 1))
         × (g.charge ≤ g.room)
         × (g.room < 2 ^ 64 - 1)
-        × (g.places ≡ hashes_of g.groups.items) };
+        × (g.places.numbers ≡ hashes_of g.groups.items) };
 }
 
 impl Groups {
@@ -219,17 +237,17 @@ impl Groups {
             room,
             charge: 0,
             groups: Vec::new(alloc),
-            places: Places::new(alloc),
+            places: Places::new(alloc)?,
         };
         if spec.keys.as_slice().is_empty() {
             let tallies = Tallies::new(alloc, spec.items.as_slice())?;
-            groups.put(0, Row::of(Vec::new(alloc)), tallies)?;
+            groups.put(alloc, 0, Row::of(Vec::new(alloc)), tallies)?;
         }
         Ok(groups)
     }
 
     /// Puts a group behind the others.
-    fn put(&mut self, hash: u64, key: Row, tallies: Tallies) -> Result<(), RunError>
+    fn put(&mut self, alloc: Global, hash: u64, key: Row, tallies: Tallies) -> Result<(), RunError>
         requires { hash ≡ row_hash key }
         ensures ok { OnOk result (self.new ≡ record self.old {
           charge = self.old.charge + group_charge self.old.spec.items key;
@@ -244,7 +262,7 @@ impl Groups {
             return Err(RunError::NeedsSpill);
         }
         self.groups.reserve(1)?;
-        self.places.push(hash)?;
+        self.places.push(alloc, hash)?;
         self.groups.push_reserved((key, tallies));
         self.charge += bytes;
         Ok(())
@@ -264,7 +282,7 @@ impl Groups {
         let key = key_of(alloc, self.spec.keys.as_slice(), tuple)?;
         let mut tallies = Tallies::new(alloc, self.spec.items.as_slice())?;
         tallies.add(alloc, tuple)?;
-        self.put(hash, key, tallies)
+        self.put(alloc, hash, key, tallies)
     }
 
     /// Takes one row more. After an error the groups can only be let go.

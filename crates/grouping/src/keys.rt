@@ -11,7 +11,8 @@ use rm_base::value::Value;
 use std::alloc::{AllocError, Global};
 use tuples::tuple::Tuple;
 
-fn copy(alloc: Global, value: Option<&Value>) -> Result<Value, AllocError>
+/// A copy of a value that may be missing, which is Null then.
+pub fn copy(alloc: Global, value: Option<&Value>) -> Result<Value, AllocError>
     ensures { IfOk result (λ copied. copied ≡ known value.entry) }
 {
     match value {

@@ -3,6 +3,7 @@ pub mod Looping
 pub mod Outcomes
 pub mod Passing
 pub mod Plans
+pub mod Runnable
 pub mod Runs
 pub mod Staged
 pub mod Taking

@@ -1,5 +1,5 @@
 -- Plans that are kept can be run over the script's tables.
-use Rattle.std.proofs.Common.{◌≡◌, ℕ, ◌==◌, eqb, Bool, true, false, cond, List, [], ◌∷◌, ◌++◌, Option, Some, None, Result, Ok, Err, find, refl, sym, ap, ◌∙◌, subst}
+use Rattle.std.proofs.Common.{◌≡◌, ℕ, eqb, true, false, cond, List, [], ◌∷◌, ◌++◌, Option, Some, None, Result, Ok, Err, find, refl, sym, ap, ◌∙◌, subst}
 use Rattle.std.specs.Prelude.{option_map, IfSome, OnOk, OnErr}
 use Rattle.rm_base.specs.declared.catalog.CatalogTable.{CatalogTable}
 use Rattle.rm_base.specs.declared.name.Name.{Name}
@@ -8,27 +8,11 @@ use Rattle.rm_base.specs.Name.{same_name}
 use Rattle.rm_base.specs.TableSeen.{TableSeen}
 use Rattle.rm_rules.specs.State.{without}
 use Rattle.csv_tables.specs.declared.tables.NamedTable.{NamedTable}
-use Rattle.csv_tables.specs.Named.{table_called, catalog_table, catalog_of}
+use Rattle.csv_tables.specs.Named.{table_called}
 use Rattle.query_plan.specs.Scope.{table_named}
-use Rattle.query_plan.specs.Text.{IsSpelled, SpellsText}
 use Rattle.query_run.specs.Running.{IsRunnable}
 use Rattle.sessions.specs.declared.plans.KeptPlan.{KeptPlan}
 use Rattle.sessions.specs.Plans.{plan_of, with_plan, without_plan, AreRunnable}
-
--- a table's columns stand in the catalog of the tables
-stands : (tables : List NamedTable) (name : Name)
-    → IfSome (table_named (catalog_of tables) name) (λ t. option_map (λ (found : TableSeen). found.columns) (table_called tables name) ≡ Some t.columns)
-stands [] name = tt
-stands (t ∷ ts) name =
-    elim (same_name t.name name) as (λ b. IfSome (cond b (Some (catalog_table t)) (table_named (catalog_of ts) name))
-    (λ c. option_map (λ (found : TableSeen). found.columns) (option_map (λ (n : NamedTable). n.table) (cond b (Some t) (find (λ (n : NamedTable). same_name n.name name) ts))) ≡ Some c.columns)) [
-      | true ↦ refl
-      | false ↦ stands ts name
-    ]
-
--- a text that is read over the tables is a plan that can be run over them
-pub spelled-runs : (tables : List NamedTable) (text : List ℕ) (plan : Select) → SpellsText (catalog_of tables) text plan → IsRunnable plan tables
-spelled-runs tables text plan spelled = record { catalog = catalog_of tables; spelled = (text, spelled); stand = stands tables }
 
 -- a table that is there stays there
 found-still : (tables more : List NamedTable) (name : Name) (t : TableSeen) → table_called tables name ≡ Some t → table_called (tables ++ more) name ≡ Some t

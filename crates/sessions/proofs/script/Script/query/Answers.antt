@@ -6,9 +6,9 @@ use Rattle.rm_rules.proofs.Places.{find-absent}
 use Rattle.csv_tables.specs.declared.tables.NamedTable.{NamedTable}
 use Rattle.query_plan.specs.Text.{SpellsText}
 use Rattle.query_run.specs.Running.{IsRunnable}
+use Rattle.query_run.proofs.Runnable.{spelled-runs}
 use Rattle.sessions.specs.SessionNames.{NamedSession}
 use Rattle.sessions.specs.Turns.{ScriptState, query_for}
-use Rattle.sessions.proofs.PlanLemmas.{spelled-runs}
 use Rattle.sessions.proofs.script.Script.query.Goals as goal
 
 pub returns-in_default : goal.returns-in_default
