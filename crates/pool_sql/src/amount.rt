@@ -3,7 +3,7 @@ ghost use Rattle.std.specs.List.{list_any};
 ghost use Rattle.std.specs.Str.{bytes_eq};
 ghost use Rattle.rm_words.specs.Class.{class_of};
 ghost use Rattle.rm_words.specs.Word.{is_digit};
-ghost use Rattle.rm_words.specs.Token.{seen};
+ghost use Rattle.rm_words.specs.Token.{token_told};
 ghost use Rattle.pool_sql.specs.Amount.{bytes_in, digit_count, ms_in, number_between, percent_in, size_in, size_in_text, size_of, span_in, span_in_text, span_of, timeout_of, unit_bytes, unit_ms, within};
 
 use crate::stop::Fault;
@@ -36,7 +36,7 @@ fn scaled(least: u64, most: u64, number: u64, unit: u64) -> Result<u64, Fault>
 
 /// The number that a word writes, where it is between a least and a greatest one.
 pub fn number_between(least: u64, most: u64, token: &Token) -> Result<u64, Fault>
-    ensures { result ≡ number_between least most (seen token.now) }
+    ensures { result ≡ number_between least most (token_told token.now) }
 {
     match token {
         Token::Number(number) => within(least, most, *number),
@@ -103,7 +103,7 @@ fn size_in(number: u64, unit: &[u8]) -> Result<Size, Fault>
 
 /// A size: digits and a unit between quotes.
 pub fn size_of(token: &Token) -> Result<Size, Fault>
-    ensures { result ≡ size_of (seen token.now) }
+    ensures { result ≡ size_of (token_told token.now) }
 {
     match token {
         Token::Quoted(text) => size_in_text(text.as_bytes()),
@@ -164,7 +164,7 @@ fn span_in(least: u64, number: u64, unit: &[u8]) -> Result<u64, Fault>
 
 /// A span in milliseconds, at least so long: digits, a space and a unit between quotes.
 pub fn span_of(least: u64, token: &Token) -> Result<u64, Fault>
-    ensures { result ≡ span_of least (seen token.now) }
+    ensures { result ≡ span_of least (token_told token.now) }
 {
     match token {
         Token::Quoted(text) => span_in_text(least, text.as_bytes()),
@@ -185,7 +185,7 @@ fn span_in_text(least: u64, text: &[u8]) -> Result<u64, Fault>
 
 /// A timeout in milliseconds: a number of seconds, or a span.
 pub fn timeout_of(token: &Token) -> Result<u64, Fault>
-    ensures { result ≡ timeout_of (seen token.now) }
+    ensures { result ≡ timeout_of (token_told token.now) }
 {
     match token {
         Token::Number(seconds) => scaled(0, SPAN_MOST, *seconds, SECOND_MS),

@@ -1,7 +1,7 @@
 ghost use Rattle.std.specs.Prelude.{◌≡◌};
 ghost use Rattle.rm_base.specs.RefusalText.{parameter_text};
 ghost use Rattle.rm_base.specs.WellFormed.{parameters};
-ghost use Rattle.rm_words.specs.Token.{is_key, seen};
+ghost use Rattle.rm_words.specs.Token.{is_key, token_told};
 ghost use Rattle.pool_sql.specs.Parameter.{is_affinity, parameter_of, takes_any};
 
 use rm_base::refusal::Parameter;
@@ -49,14 +49,14 @@ fn parameters(statement: &Statement) -> &'static [Parameter]
 }
 
 fn names(parameter: Parameter, token: &Token) -> bool
-    ensures { result ≡ is_key (seen token.now) (parameter_text parameter) }
+    ensures { result ≡ is_key (token_told token.now) (parameter_text parameter) }
 {
     token.is_key(parameter.text().as_bytes())
 }
 
 /// The parameter of the statement that a word names.
 pub fn parameter_of(statement: &Statement, token: &Token) -> Option<Parameter>
-    ensures { result ≡ parameter_of statement.now (seen token.now) }
+    ensures { result ≡ parameter_of statement.now (token_told token.now) }
 {
     parameters(statement)
         .iter()
@@ -73,7 +73,7 @@ pub fn takes_any(statement: &Statement) -> bool
 
 /// Whether the word is the name of a parameter that is not supported.
 pub fn is_affinity(token: &Token) -> bool
-    ensures { result ≡ is_affinity (seen token.now) }
+    ensures { result ≡ is_affinity (token_told token.now) }
 {
     token.is_key(b"CPUAFFINITYSET") || token.is_key(b"CPUAFFINITYMODE")
 }

@@ -1,5 +1,5 @@
 ghost use Rattle.std.specs.Prelude.{◌≡◌, [], ◌∷◌};
-ghost use Rattle.rm_words.specs.Token.{seen};
+ghost use Rattle.rm_words.specs.Token.{token_told};
 ghost use Rattle.pool_sql.specs.Parameter.{parameter_of};
 ghost use Rattle.pool_sql.specs.Value.{negative_of, optional_name, value_of};
 ghost use Rattle.pool_sql.specs.Machine.{begun, finish, giving_edges, is_minus, is_semicolon, keyed, on_given, on_key, on_negative, on_other, on_parameter, on_role_pool, on_value, role_given, step, stranger, to_key, usage_given};
@@ -134,7 +134,7 @@ impl Giving {
 
 /// The one key word that may come next, and where it leads.
 fn on_key(token: &Token, key: &[u8], progress: Progress) -> Result<Progress, Stop>
-    ensures { result ≡ on_key ((key.now, progress) ∷ []) (seen token.now) }
+    ensures { result ≡ on_key ((key.now, progress) ∷ []) (token_told token.now) }
 {
     if token.is_key(key) {
         Ok(progress)
@@ -144,7 +144,7 @@ fn on_key(token: &Token, key: &[u8], progress: Progress) -> Result<Progress, Sto
 }
 
 fn on_start(token: &Token) -> Result<Progress, Stop>
-    ensures { result ≡ step Progress.Start (seen token.now) }
+    ensures { result ≡ step Progress.Start (token_told token.now) }
 {
     if token.is_key(b"CREATE") {
         Ok(Progress::Verbed(Verb::Create))
@@ -158,7 +158,7 @@ fn on_start(token: &Token) -> Result<Progress, Stop>
 }
 
 fn on_giving(token: &Token) -> Result<Progress, Stop>
-    ensures { result ≡ on_key giving_edges (seen token.now) }
+    ensures { result ≡ on_key giving_edges (token_told token.now) }
 {
     if token.is_key(b"GRANT") {
         Ok(Progress::Given(Giving::Grant))
@@ -170,7 +170,7 @@ fn on_giving(token: &Token) -> Result<Progress, Stop>
 }
 
 fn on_verb(verb: Verb, token: &Token) -> Result<Progress, Stop>
-    ensures { result ≡ step (Progress.Verbed verb) (seen token.now) }
+    ensures { result ≡ step (Progress.Verbed verb) (token_told token.now) }
 {
     if token.is_key(b"RESOURCE") {
         Ok(Progress::OfResource(verb))
@@ -185,7 +185,7 @@ fn on_verb(verb: Verb, token: &Token) -> Result<Progress, Stop>
 
 /// The first word behind GRANT or REVOKE.
 fn on_given(giving: Giving, token: &Token) -> Result<Progress, Stop>
-    ensures { result ≡ on_given giving (seen token.now) }
+    ensures { result ≡ on_given giving (token_told token.now) }
 {
     if token.is_key(b"USAGE") {
         return Ok(Progress::Usage(giving));
@@ -197,7 +197,7 @@ fn on_given(giving: Giving, token: &Token) -> Result<Progress, Stop>
 }
 
 fn on_usage(giving: Giving, token: &Token) -> Result<Progress, Stop>
-    ensures { result ≡ step (Progress.Usage giving) (seen token.now) }
+    ensures { result ≡ step (Progress.Usage giving) (token_told token.now) }
 {
     if token.is_key(b"ON") {
         Ok(Progress::UsageOn(giving))
@@ -209,7 +209,7 @@ fn on_usage(giving: Giving, token: &Token) -> Result<Progress, Stop>
 }
 
 fn on_begun(verb: Verb, kind: Kind, token: &Token) -> Result<Progress, Stop>
-    ensures { result ≡ step (Progress.NameDue verb kind) (seen token.now) }
+    ensures { result ≡ step (Progress.NameDue verb kind) (token_told token.now) }
 {
     match token.name() {
         Some(name) => Ok(begun(verb, kind, name)),
@@ -218,7 +218,7 @@ fn on_begun(verb: Verb, kind: Kind, token: &Token) -> Result<Progress, Stop>
 }
 
 fn on_usage_pool(giving: Giving, token: &Token) -> Result<Progress, Stop>
-    ensures { result ≡ step (Progress.UsagePool giving) (seen token.now) }
+    ensures { result ≡ step (Progress.UsagePool giving) (token_told token.now) }
 {
     match token.name() {
         Some(pool) => Ok(Progress::UsageOf(giving, pool)),
@@ -227,7 +227,7 @@ fn on_usage_pool(giving: Giving, token: &Token) -> Result<Progress, Stop>
 }
 
 fn on_usage_to(giving: Giving, pool: Name, token: &Token) -> Result<Progress, Stop>
-    ensures { result ≡ step (Progress.UsageTo giving pool) (seen token.now) }
+    ensures { result ≡ step (Progress.UsageTo giving pool) (token_told token.now) }
 {
     match token.name() {
         Some(name) => Ok(Progress::Part(true, giving.usage(pool, name))),
@@ -236,7 +236,7 @@ fn on_usage_to(giving: Giving, pool: Name, token: &Token) -> Result<Progress, St
 }
 
 fn on_role_to(giving: Giving, role: Name, token: &Token) -> Result<Progress, Stop>
-    ensures { result ≡ step (Progress.RoleTo giving role) (seen token.now) }
+    ensures { result ≡ step (Progress.RoleTo giving role) (token_told token.now) }
 {
     match token.name() {
         Some(user) => Ok(Progress::Part(true, giving.role(role, user))),
@@ -245,7 +245,7 @@ fn on_role_to(giving: Giving, role: Name, token: &Token) -> Result<Progress, Sto
 }
 
 fn on_role_pool(name: Name, token: &Token) -> Result<Progress, Stop>
-    ensures { result ≡ on_role_pool name (optional_name (seen token.now)) }
+    ensures { result ≡ on_role_pool name (optional_name (token_told token.now)) }
 {
     match optional_name(token) {
         Ok(pool) => Ok(Progress::Part(true, Statement::AlterRole(name, pool))),
@@ -265,7 +265,7 @@ fn keyed(statement: Statement, parameter: Parameter) -> Progress
 }
 
 fn stranger(takes: bool, token: &Token) -> Stop
-    ensures { result ≡ stranger takes (seen token.now) }
+    ensures { result ≡ stranger takes (token_told token.now) }
 {
     if !takes {
         Stop::Syntax
@@ -284,7 +284,7 @@ fn is_semicolon(symbol: Symbol) -> bool
 
 /// A word behind a body that names no parameter.
 fn on_other(whole: bool, statement: Statement, token: &Token) -> Result<Progress, Stop>
-    ensures { result ≡ on_other whole statement (seen token.now) }
+    ensures { result ≡ on_other whole statement (token_told token.now) }
 {
     match token {
         Token::Bare(_) => Err(stranger(takes_any(&statement), token)),
@@ -294,7 +294,7 @@ fn on_other(whole: bool, statement: Statement, token: &Token) -> Result<Progress
 }
 
 fn on_parameter(whole: bool, statement: Statement, token: &Token) -> Result<Progress, Stop>
-    ensures { result ≡ on_parameter whole statement (seen token.now) (parameter_of statement (seen token.now)) }
+    ensures { result ≡ on_parameter whole statement (token_told token.now) (parameter_of statement (token_told token.now)) }
 {
     match parameter_of(&statement, token) {
         Some(parameter) if is_named(parameter, &statement) => Err(Stop::Repeated(parameter)),
@@ -304,7 +304,7 @@ fn on_parameter(whole: bool, statement: Statement, token: &Token) -> Result<Prog
 }
 
 fn is_minus(parameter: Parameter, token: &Token) -> bool
-    ensures { result ≡ is_minus parameter (seen token.now) }
+    ensures { result ≡ is_minus parameter (token_told token.now) }
 {
     matches!(
         (parameter, token),
@@ -313,7 +313,7 @@ fn is_minus(parameter: Parameter, token: &Token) -> bool
 }
 
 fn on_value(statement: Statement, parameter: Parameter, token: &Token) -> Result<Progress, Stop>
-    ensures { result ≡ on_value statement parameter (seen token.now) (value_of parameter (seen token.now)) }
+    ensures { result ≡ on_value statement parameter (token_told token.now) (value_of parameter (token_told token.now)) }
 {
     match value_of(parameter, token) {
         Ok(setting) => Ok(Progress::Part(true, set(statement, setting))),
@@ -323,7 +323,7 @@ fn on_value(statement: Statement, parameter: Parameter, token: &Token) -> Result
 }
 
 fn on_negative(statement: Statement, token: &Token) -> Result<Progress, Stop>
-    ensures { result ≡ on_negative statement (negative_of (seen token.now)) }
+    ensures { result ≡ on_negative statement (negative_of (token_told token.now)) }
 {
     match negative_of(token) {
         Ok(number) => Ok(Progress::Part(true, set(statement, Setting::Priority(number)))),
@@ -334,7 +334,7 @@ fn on_negative(statement: Statement, token: &Token) -> Result<Progress, Stop>
 impl Progress {
     /// One word more.
     pub fn step(self, token: &Token) -> Result<Progress, Stop>
-        ensures { result ≡ step self (seen token.now) }
+        ensures { result ≡ step self (token_told token.now) }
     {
         match self {
             Progress::Start => on_start(token),

@@ -1,5 +1,5 @@
 ghost use Rattle.std.specs.Prelude.{◌≡◌};
-ghost use Rattle.rm_words.specs.Token.{seen};
+ghost use Rattle.rm_words.specs.Token.{token_told};
 ghost use Rattle.pool_sql.specs.Value.{defaults, is_auto, is_default, is_none, level_of, memory_size_of, negative_of, optional_name, optional_size, parallelism_of, priority_of, queue_timeout_of, runtime_cap_of, stop_of, threshold_of, value_of};
 
 use crate::amount::{number_between, size_of, span_of, timeout_of};
@@ -14,21 +14,21 @@ use rm_base::statement::{Level, Size};
 use rm_words::token::Token;
 
 fn is_default(token: &Token) -> bool
-    ensures { result ≡ is_default (seen token.now) }
+    ensures { result ≡ is_default (token_told token.now) }
 {
     token.is_key(b"DEFAULT")
 }
 
 /// NONE, or DEFAULT where that is NONE.
 fn is_none(token: &Token) -> bool
-    ensures { result ≡ is_none (seen token.now) }
+    ensures { result ≡ is_none (token_told token.now) }
 {
     token.is_key(b"NONE") || is_default(token)
 }
 
 /// AUTO, or DEFAULT where that is AUTO.
 fn is_auto(token: &Token) -> bool
-    ensures { result ≡ is_auto (seen token.now) }
+    ensures { result ≡ is_auto (token_told token.now) }
 {
     token.is_key(b"AUTO") || is_default(token)
 }
@@ -50,7 +50,7 @@ fn stop_of(parameter: Parameter, fault: Fault) -> Stop
 }
 
 fn memory_size_of(token: &Token) -> Result<Size, Stop>
-    ensures { result ≡ memory_size_of (seen token.now) }
+    ensures { result ≡ memory_size_of (token_told token.now) }
 {
     if is_default(token) {
         return Ok(Size::Percent(0));
@@ -62,7 +62,7 @@ fn memory_size_of(token: &Token) -> Result<Size, Stop>
 }
 
 fn optional_size(parameter: Parameter, token: &Token) -> Result<Option<Size>, Stop>
-    ensures { result ≡ optional_size parameter (seen token.now) }
+    ensures { result ≡ optional_size parameter (token_told token.now) }
 {
     if is_none(token) {
         return Ok(None);
@@ -75,7 +75,7 @@ fn optional_size(parameter: Parameter, token: &Token) -> Result<Option<Size>, St
 
 /// From 1 to the greatest, or `None` where the token says so.
 fn parallelism_of(parameter: Parameter, none: bool, token: &Token) -> Result<Option<u32>, Stop>
-    ensures { result ≡ parallelism_of parameter none (seen token.now) }
+    ensures { result ≡ parallelism_of parameter none (token_told token.now) }
 {
     if none {
         return Ok(None);
@@ -87,7 +87,7 @@ fn parallelism_of(parameter: Parameter, none: bool, token: &Token) -> Result<Opt
 }
 
 fn priority_of(token: &Token) -> Result<i32, Stop>
-    ensures { result ≡ priority_of (seen token.now) }
+    ensures { result ≡ priority_of (token_told token.now) }
 {
     if token.is_key(b"HOLD") {
         return Err(Stop::NotSupported);
@@ -103,7 +103,7 @@ fn priority_of(token: &Token) -> Result<i32, Stop>
 
 /// A priority whose word stands behind a `-`.
 pub fn negative_of(token: &Token) -> Result<i32, Stop>
-    ensures { result ≡ negative_of (seen token.now) }
+    ensures { result ≡ negative_of (token_told token.now) }
 {
     match number_between(0, PRIORITY_MOST as u64, token) {
         Ok(number) => Ok(-(number as i32)),
@@ -112,7 +112,7 @@ pub fn negative_of(token: &Token) -> Result<i32, Stop>
 }
 
 fn level_of(token: &Token) -> Result<Level, Stop>
-    ensures { result ≡ level_of (seen token.now) }
+    ensures { result ≡ level_of (token_told token.now) }
 {
     if token.is_key(b"HIGH") {
         Ok(Level::High)
@@ -128,7 +128,7 @@ fn level_of(token: &Token) -> Result<Level, Stop>
 }
 
 fn threshold_of(token: &Token) -> Result<u32, Stop>
-    ensures { result ≡ threshold_of (seen token.now) }
+    ensures { result ≡ threshold_of (token_told token.now) }
 {
     if is_default(token) {
         return Ok(defaults().threshold_s);
@@ -140,7 +140,7 @@ fn threshold_of(token: &Token) -> Result<u32, Stop>
 }
 
 fn queue_timeout_of(token: &Token) -> Result<Option<u64>, Stop>
-    ensures { result ≡ queue_timeout_of (seen token.now) }
+    ensures { result ≡ queue_timeout_of (token_told token.now) }
 {
     if is_default(token) {
         return Ok(defaults().queue_ms);
@@ -155,7 +155,7 @@ fn queue_timeout_of(token: &Token) -> Result<Option<u64>, Stop>
 }
 
 fn runtime_cap_of(token: &Token) -> Result<Option<u64>, Stop>
-    ensures { result ≡ runtime_cap_of (seen token.now) }
+    ensures { result ≡ runtime_cap_of (token_told token.now) }
 {
     if is_none(token) {
         return Ok(None);
@@ -168,7 +168,7 @@ fn runtime_cap_of(token: &Token) -> Result<Option<u64>, Stop>
 
 /// A name, or `None` for NONE or DEFAULT.
 pub fn optional_name(token: &Token) -> Result<Option<Name>, Stop>
-    ensures { result ≡ optional_name (seen token.now) }
+    ensures { result ≡ optional_name (token_told token.now) }
 {
     if is_none(token) {
         return Ok(None);
@@ -181,7 +181,7 @@ pub fn optional_name(token: &Token) -> Result<Option<Name>, Stop>
 
 /// What the parameter is set to by a value of one word.
 pub fn value_of(parameter: Parameter, token: &Token) -> Result<Setting, Stop>
-    ensures { result ≡ value_of parameter (seen token.now) }
+    ensures { result ≡ value_of parameter (token_told token.now) }
 {
     match parameter {
         Parameter::MemorySize => memory_size_of(token).map(Setting::MemorySize),

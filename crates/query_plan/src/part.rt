@@ -2,7 +2,7 @@
 
 ghost use Rattle.std.specs.Prelude.{◌≡◌, IfOk, option_map};
 ghost use Rattle.rm_words.specs.Names.{name_of};
-ghost use Rattle.rm_words.specs.Token.{seen};
+ghost use Rattle.rm_words.specs.Token.{token_told};
 ghost use Rattle.query_plan.specs.Grammar.{bare_column, clause_of, function_word, int_of, is_whole, negative_of, op_of, qualified_column, table_clause, test_clause};
 ghost use Rattle.query_plan.specs.Machine.{alias_turn, begun, call_turn, column_read, dotted_turn, function_in, function_turn, goes, int_read, is_close, is_count, is_dot, is_open, is_star, item_begun, item_of, key_begun, key_turn, left_turn, limit_begun, list_begun, minus_turn, named_turn, op_in, opened_turn, operand_begun, operand_read, part_of, table_turn, turn, unclosed_turn, unqualified_part, unqualified_turn, value_turn};
 
@@ -141,7 +141,7 @@ fn op_of(symbol: Symbol) -> Option<Op>
 }
 
 fn op_in(token: &Token) -> Option<Op>
-    ensures { result ≡ op_in (seen token.now) }
+    ensures { result ≡ op_in (token_told token.now) }
 {
     match token {
         Token::Sign(symbol) => op_of(*symbol),
@@ -180,7 +180,7 @@ fn item_of(place: u64, value: RawValue) -> RawItem
 
 /// The function whose key word this is.
 fn function_in(token: &Token) -> Option<Function>
-    ensures { result ≡ function_in (seen token.now) }
+    ensures { result ≡ function_in (token_told token.now) }
 {
     if token.is_key(b"COUNT") {
         Some(Function::Count)
@@ -238,7 +238,7 @@ impl Side {
 
     /// The first word of an operand.
     fn begun(self, alloc: Global, token: &Token) -> Result<Option<Partial>, AllocError>
-        ensures { IfOk result (λ partial. partial ≡ operand_begun self (seen token.now)) }
+        ensures { IfOk result (λ partial. partial ≡ operand_begun self (token_told token.now)) }
     {
         match token {
             Token::Bare(_) => Ok(self.named(token.name())),
@@ -270,7 +270,7 @@ impl Purpose {
 
     /// A word behind a column that is named alone, and that is no `.`.
     fn unqualified(self, name: Name, place: u64, token: &Token) -> Turn
-        ensures { result ≡ unqualified_turn self name (record { place = place; says = seen token.now }) }
+        ensures { result ≡ unqualified_turn self name (record { place = place; says = token_told token.now }) }
     {
         match self {
             Purpose::Item(start) => value_turn(start, RawValue::Column(bare_column(name)), token),
@@ -314,32 +314,32 @@ impl Purpose {
 }
 
 fn is_dot(token: &Token) -> bool
-    ensures { result ≡ is_dot (seen token.now) }
+    ensures { result ≡ is_dot (token_told token.now) }
 {
     matches!(token, Token::Sign(Symbol::Dot))
 }
 
 fn is_open(token: &Token) -> bool
-    ensures { result ≡ is_open (seen token.now) }
+    ensures { result ≡ is_open (token_told token.now) }
 {
     matches!(token, Token::Sign(Symbol::Open))
 }
 
 fn is_close(token: &Token) -> bool
-    ensures { result ≡ is_close (seen token.now) }
+    ensures { result ≡ is_close (token_told token.now) }
 {
     matches!(token, Token::Sign(Symbol::Close))
 }
 
 fn is_star(token: &Token) -> bool
-    ensures { result ≡ is_star (seen token.now) }
+    ensures { result ≡ is_star (token_told token.now) }
 {
     matches!(token, Token::Sign(Symbol::Star))
 }
 
 /// A word behind what an item gives.
 fn value_turn(place: u64, value: RawValue, token: &Token) -> Turn
-    ensures { result ≡ value_turn place value (seen token.now) }
+    ensures { result ≡ value_turn place value (token_told token.now) }
 {
     if token.is_key(b"AS") {
         Turn::Goes(Partial::ValueAs(place, value))
@@ -350,7 +350,7 @@ fn value_turn(place: u64, value: RawValue, token: &Token) -> Turn
 
 /// A word behind a function's key word.
 fn function_turn(place: u64, function: Function, token: &Token) -> Turn
-    ensures { result ≡ function_turn place function (seen token.now) }
+    ensures { result ≡ function_turn place function (token_told token.now) }
 {
     if is_open(token) {
         Turn::Goes(Partial::Opened(place, function))
@@ -361,7 +361,7 @@ fn function_turn(place: u64, function: Function, token: &Token) -> Turn
 
 /// A word behind that and `(`.
 fn opened_turn(place: u64, function: Function, token: &Token) -> Turn
-    ensures { result ≡ opened_turn place function (seen token.now) }
+    ensures { result ≡ opened_turn place function (token_told token.now) }
 {
     if is_count(function) && is_star(token) {
         return Turn::Goes(Partial::Unclosed(place, RawValue::CountAll));
@@ -374,7 +374,7 @@ fn opened_turn(place: u64, function: Function, token: &Token) -> Turn
 
 /// A word where `)` is due.
 fn unclosed_turn(place: u64, value: RawValue, token: &Token) -> Turn
-    ensures { result ≡ unclosed_turn place value (seen token.now) }
+    ensures { result ≡ unclosed_turn place value (token_told token.now) }
 {
     if is_close(token) {
         Turn::Goes(Partial::Value(place, value))
@@ -385,7 +385,7 @@ fn unclosed_turn(place: u64, value: RawValue, token: &Token) -> Turn
 
 /// A word behind the left operand of a comparison.
 fn left_turn(left: RawOperand, place: u64, token: &Token) -> Turn
-    ensures { result ≡ left_turn left (record { place = place; says = seen token.now }) }
+    ensures { result ≡ left_turn left (record { place = place; says = token_told token.now }) }
 {
     match op_in(token) {
         Some(op) => Turn::Goes(Partial::Compared(left, op, place)),
@@ -395,7 +395,7 @@ fn left_turn(left: RawOperand, place: u64, token: &Token) -> Turn
 
 /// A word behind a table's name.
 fn table_turn(name: Name, token: &Token) -> Turn
-    ensures { result ≡ table_turn name (seen token.now) }
+    ensures { result ≡ table_turn name (token_told token.now) }
 {
     if token.is_key(b"AS") {
         return Turn::Goes(Partial::TableAs(name));
@@ -408,7 +408,7 @@ fn table_turn(name: Name, token: &Token) -> Turn
 
 /// A word behind a `-`.
 fn minus_turn(side: Side, token: &Token) -> Turn
-    ensures { result ≡ minus_turn side (seen token.now) }
+    ensures { result ≡ minus_turn side (token_told token.now) }
 {
     match token {
         Token::Number(number) => goes(side.read_int(negative_of(*number))),
@@ -418,7 +418,7 @@ fn minus_turn(side: Side, token: &Token) -> Turn
 
 /// A word behind what a key names.
 fn key_turn(by: KeyBy, token: &Token) -> Turn
-    ensures { result ≡ key_turn by (seen token.now) }
+    ensures { result ≡ key_turn by (token_told token.now) }
 {
     if token.is_key(b"ASC") {
         Turn::Goes(Partial::Key(RawKey { by, falling: false }))
@@ -439,7 +439,7 @@ fn goes(partial: Option<Partial>) -> Turn
 }
 
 fn item_begun(place: u64, token: &Token) -> Option<Partial>
-    ensures { result ≡ item_begun (record { place = place; says = seen token.now }) }
+    ensures { result ≡ item_begun (record { place = place; says = token_told token.now }) }
 {
     if let Some(function) = function_in(token) {
         return Some(Partial::Function(place, function));
@@ -451,7 +451,7 @@ fn item_begun(place: u64, token: &Token) -> Option<Partial>
 }
 
 fn list_begun(place: u64, token: &Token) -> Option<Partial>
-    ensures { result ≡ list_begun place (seen token.now) }
+    ensures { result ≡ list_begun place (token_told token.now) }
 {
     match token {
         Token::Sign(Symbol::Star) => Some(Partial::All(place)),
@@ -460,7 +460,7 @@ fn list_begun(place: u64, token: &Token) -> Option<Partial>
 }
 
 fn key_begun(catalog: &Catalog, raw: &RawSelect, token: &Token) -> Option<Partial>
-    ensures { result ≡ key_begun catalog.now raw.now (seen token.now) }
+    ensures { result ≡ key_begun catalog.now raw.now (token_told token.now) }
 {
     match token {
         Token::Number(number) if is_listed(catalog, raw, *number) => {
@@ -472,7 +472,7 @@ fn key_begun(catalog: &Catalog, raw: &RawSelect, token: &Token) -> Option<Partia
 }
 
 fn group_begun(token: &Token) -> Option<Partial>
-    ensures { result ≡ option_map (λ n. Partial.Named Purpose.Group n) (name_of (seen token.now)) }
+    ensures { result ≡ option_map (λ n. Partial.Named Purpose.Group n) (name_of (token_told token.now)) }
 {
     match token.name() {
         Some(name) => Some(Partial::Named(Purpose::Group, name)),
@@ -481,7 +481,7 @@ fn group_begun(token: &Token) -> Option<Partial>
 }
 
 fn limit_begun(token: &Token) -> Option<Partial>
-    ensures { result ≡ limit_begun (seen token.now) }
+    ensures { result ≡ limit_begun (token_told token.now) }
 {
     match token {
         Token::Number(number) if *number <= u64::from(LIMIT_MOST) => {
@@ -500,7 +500,7 @@ fn begun(
     place: u64,
     token: &Token,
 ) -> Result<Option<Partial>, AllocError>
-    ensures { IfOk result (λ partial. partial ≡ begun catalog.now raw.now slot (record { place = place; says = seen token.now })) }
+    ensures { IfOk result (λ partial. partial ≡ begun catalog.now raw.now slot (record { place = place; says = token_told token.now })) }
 {
     if !raw.has_room(slot) {
         return Ok(None);
@@ -518,7 +518,7 @@ fn begun(
 
 /// A word behind a column's name, or behind what its table is called by.
 fn named_turn(purpose: Purpose, name: Name, place: u64, token: &Token) -> Turn
-    ensures { result ≡ named_turn purpose name (record { place = place; says = seen token.now }) }
+    ensures { result ≡ named_turn purpose name (record { place = place; says = token_told token.now }) }
 {
     if is_dot(token) {
         Turn::Goes(Partial::Dotted(purpose, name))
@@ -529,7 +529,7 @@ fn named_turn(purpose: Purpose, name: Name, place: u64, token: &Token) -> Turn
 
 /// A word behind what a column's table is called by, and `.`.
 fn dotted_turn(purpose: Purpose, qualifier: Name, token: &Token) -> Turn
-    ensures { result ≡ dotted_turn purpose qualifier (name_of (seen token.now)) }
+    ensures { result ≡ dotted_turn purpose qualifier (name_of (token_told token.now)) }
 {
     match token.name() {
         Some(name) => Turn::Goes(purpose.read(qualified_column(qualifier, name))),
@@ -539,7 +539,7 @@ fn dotted_turn(purpose: Purpose, qualifier: Name, token: &Token) -> Turn
 
 /// A word behind AS and what an item gives.
 fn alias_turn(place: u64, value: RawValue, token: &Token) -> Turn
-    ensures { result ≡ alias_turn place value (name_of (seen token.now)) }
+    ensures { result ≡ alias_turn place value (name_of (token_told token.now)) }
 {
     match token.name() {
         Some(name) => Turn::Goes(Partial::Item(RawItem {
@@ -553,7 +553,7 @@ fn alias_turn(place: u64, value: RawValue, token: &Token) -> Turn
 
 /// A word behind AS and a table's name.
 fn call_turn(name: Name, token: &Token) -> Turn
-    ensures { result ≡ call_turn name (name_of (seen token.now)) }
+    ensures { result ≡ call_turn name (name_of (token_told token.now)) }
 {
     match token.name() {
         Some(call) => Turn::Goes(Partial::Table(RawTable { name, call })),
@@ -572,7 +572,7 @@ impl Partial {
         place: u64,
         token: &Token,
     ) -> Result<Turn, AllocError>
-        ensures { IfOk result (λ next. next ≡ turn catalog.now raw.now slot self (record { place = place; says = seen token.now })) }
+        ensures { IfOk result (λ next. next ≡ turn catalog.now raw.now slot self (record { place = place; says = token_told token.now })) }
     {
         match self {
             Partial::Due => Ok(goes(begun(alloc, catalog, raw, slot, place, token)?)),

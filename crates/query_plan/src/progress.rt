@@ -1,5 +1,5 @@
 ghost use Rattle.std.specs.Prelude.{◌≡◌, [], ◌∷◌, IfOk, Some};
-ghost use Rattle.rm_words.specs.Token.{seen};
+ghost use Rattle.rm_words.specs.Token.{token_told};
 ghost use Rattle.query_plan.specs.Machine.{Key, closed, due, finish, is_comma, is_semicolon, joinable_edges, last_edges, led, on_edge, step, turned, ungrouped_edges, unlimited_edges, unordered_edges};
 
 use crate::part::{Clause, Partial, Turn};
@@ -21,13 +21,13 @@ pub enum Progress {
 }
 
 fn is_comma(token: &Token) -> bool
-    ensures { result ≡ is_comma (seen token.now) }
+    ensures { result ≡ is_comma (token_told token.now) }
 {
     matches!(token, Token::Sign(Symbol::Comma))
 }
 
 fn is_semicolon(token: &Token) -> bool
-    ensures { result ≡ is_semicolon (seen token.now) }
+    ensures { result ≡ is_semicolon (token_told token.now) }
 {
     matches!(token, Token::Sign(Symbol::Semicolon))
 }
@@ -41,7 +41,7 @@ fn due(raw: RawSelect, slot: Slot) -> Option<Progress>
 
 /// A word where a SELECT may end.
 fn at_end(raw: RawSelect, token: &Token) -> Option<Progress>
-    ensures { result ≡ on_edge (last_edges raw) (seen token.now) }
+    ensures { result ≡ on_edge (last_edges raw) (token_told token.now) }
 {
     if is_semicolon(token) {
         Some(Progress::Ended(raw))
@@ -52,7 +52,7 @@ fn at_end(raw: RawSelect, token: &Token) -> Option<Progress>
 
 /// A word where LIMIT may stand.
 fn at_limit(raw: RawSelect, token: &Token) -> Option<Progress>
-    ensures { result ≡ on_edge (unlimited_edges raw) (seen token.now) }
+    ensures { result ≡ on_edge (unlimited_edges raw) (token_told token.now) }
 {
     if token.is_key(b"LIMIT") {
         due(raw, Slot::Limit)
@@ -63,7 +63,7 @@ fn at_limit(raw: RawSelect, token: &Token) -> Option<Progress>
 
 /// A word where ORDER BY may stand.
 fn at_order(raw: RawSelect, token: &Token) -> Option<Progress>
-    ensures { result ≡ on_edge (unordered_edges raw) (seen token.now) }
+    ensures { result ≡ on_edge (unordered_edges raw) (token_told token.now) }
 {
     if token.is_key(b"ORDER") {
         Some(Progress::By(raw, Slot::Key))
@@ -74,7 +74,7 @@ fn at_order(raw: RawSelect, token: &Token) -> Option<Progress>
 
 /// A word where GROUP BY may stand.
 fn at_group(raw: RawSelect, token: &Token) -> Option<Progress>
-    ensures { result ≡ on_edge (ungrouped_edges raw) (seen token.now) }
+    ensures { result ≡ on_edge (ungrouped_edges raw) (token_told token.now) }
 {
     if token.is_key(b"GROUP") {
         Some(Progress::By(raw, Slot::Group))
@@ -85,7 +85,7 @@ fn at_group(raw: RawSelect, token: &Token) -> Option<Progress>
 
 /// A word where JOIN and WHERE may stand.
 fn at_join(raw: RawSelect, token: &Token) -> Option<Progress>
-    ensures { result ≡ on_edge (joinable_edges raw) (seen token.now) }
+    ensures { result ≡ on_edge (joinable_edges raw) (token_told token.now) }
 {
     if token.is_key(b"JOIN") {
         due(raw, Slot::Joined)
@@ -98,7 +98,7 @@ fn at_join(raw: RawSelect, token: &Token) -> Option<Progress>
 
 /// The one key word that may come next, and what is due behind it.
 fn at_key(raw: RawSelect, token: &Token, key: &[u8], slot: Slot) -> Option<Progress>
-    ensures { result ≡ on_edge ((Key key.now, due raw slot) ∷ []) (seen token.now) }
+    ensures { result ≡ on_edge ((Key key.now, due raw slot) ∷ []) (token_told token.now) }
 {
     if token.is_key(key) {
         due(raw, slot)
@@ -109,7 +109,7 @@ fn at_key(raw: RawSelect, token: &Token, key: &[u8], slot: Slot) -> Option<Progr
 
 /// A word behind a part of a clause.
 fn led(raw: RawSelect, clause: Clause, token: &Token) -> Option<Progress>
-    ensures { result ≡ led raw clause (seen token.now) }
+    ensures { result ≡ led raw clause (token_told token.now) }
 {
     match clause {
         Clause::Begin => at_key(raw, token, b"SELECT", Slot::List),
@@ -139,7 +139,7 @@ impl Progress {
         place: u64,
         token: &Token,
     ) -> Result<Option<Progress>, AllocError>
-        ensures { IfOk result (λ next. next ≡ step catalog.now self (record { place = place; says = seen token.now })) }
+        ensures { IfOk result (λ next. next ≡ step catalog.now self (record { place = place; says = token_told token.now })) }
     {
         match self {
             Progress::Start => Ok(led(RawSelect::empty(alloc), Clause::Begin, token)),
@@ -171,7 +171,7 @@ fn turned(
     token: &Token,
     turn: Turn,
 ) -> Result<Option<Progress>, AllocError>
-    ensures { IfOk result (λ next. next ≡ turned raw slot (seen token.now) turn) }
+    ensures { IfOk result (λ next. next ≡ turned raw slot (token_told token.now) turn) }
 {
     match turn {
         Turn::Goes(partial) => Ok(Some(Progress::In(raw, slot, partial))),

@@ -88,11 +88,11 @@ capped (Quoted text) = Quoted text
 capped (Sign symbol) = Sign symbol
 
 -- the token for which a program's stands
-abbrev pub seen : Told → Token
-seen (told.Bare word) = Bare (folded word.now)
-seen (told.Number n) = Number n
-seen (told.Quoted text) = Quoted text.now
-seen (told.Sign symbol) = Sign symbol
+abbrev pub token_told : Told → Token
+token_told (told.Bare word) = Bare (folded word.now)
+token_told (told.Number n) = Number n
+token_told (told.Quoted text) = Quoted text.now
+token_told (told.Sign symbol) = Sign symbol
 
 -- the bytes write the token
 abbrev pub IsWritten : Token → List ℕ → Type 0

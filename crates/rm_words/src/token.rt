@@ -3,7 +3,7 @@ ghost use Rattle.std.specs.String.{string_bytes};
 ghost use Rattle.std.specs.Str.Parse.{digits_value};
 ghost use Rattle.rm_words.specs.Cut.{IsWordOf, word_at};
 ghost use Rattle.rm_words.specs.Names.{name_of};
-ghost use Rattle.rm_words.specs.Token.{AreDigits, capped, is_key, most, seen, symbol_bytes, symbol_of, token_of, undoubled};
+ghost use Rattle.rm_words.specs.Token.{AreDigits, capped, is_key, most, token_told, symbol_bytes, symbol_of, token_of, undoubled};
 
 use crate::class::{Class, class_of};
 use crate::spans::Span;
@@ -86,7 +86,7 @@ impl Symbol {
 impl Token<'_> {
     /// Whether the token is this key word, in any case.
     pub fn is_key(&self, key: &[u8]) -> bool
-        ensures { result ≡ is_key (seen self.now) key.now }
+        ensures { result ≡ is_key (token_told self.now) key.now }
     {
         match self {
             Token::Bare(word) => word.as_bytes().eq_ignore_ascii_case(key),
@@ -96,7 +96,7 @@ impl Token<'_> {
 
     /// The name that the token is.
     pub fn name(&self) -> Option<Name>
-        ensures { result ≡ name_of (seen self.now) }
+        ensures { result ≡ name_of (token_told self.now) }
     {
         match self {
             Token::Bare(word) => Name::of(word),
@@ -122,7 +122,7 @@ pub fn digits_value(digits: &[u8]) -> u64
 /// What the word at the span says.
 pub fn token_at<'a>(text: &'a str, span: Span) -> Token<'a>
     requires { IsWordOf text.now span }
-    ensures { seen result ≡ capped (token_of (word_at text.now span)) }
+    ensures { token_told result ≡ capped (token_of (word_at text.now span)) }
 {
     let (start, end) = (span.start as usize, span.end as usize);
     let word = &text[start..end];
