@@ -8,7 +8,7 @@ use Rattle.rm_rules.specs.declared.state.Runner.{Runner}
 use Rattle.rm_rules.specs.declared.state.Waiter.{Waiter}
 use Rattle.rm_rules.specs.Definitions.{user_pools, pool_row}
 use Rattle.rm_rules.specs.Ask.{ask}
-use Rattle.rm_rules.specs.State.{State, without_runner}
+use Rattle.rm_rules.specs.State.{State, without_runner, runner_of}
 use Rattle.rm_rules.specs.Holdings.{Holdings, holdings, reserves_of, holdings_of, reserve_names}
 use Rattle.rm_rules.specs.Accounting.{need, free}
 use Rattle.rm_rules.specs.Fit.{judged, judged_by}
@@ -16,7 +16,6 @@ use Rattle.rm_rules.specs.Admission.{ask_of, first_in_queue, first_entitled}
 use Rattle.rm_rules.specs.Settle.{first_too_large}
 use Rattle.rm_rules.specs.Shuffle.{shuffled, with_sizes, shuffled_state}
 use Rattle.rm_rules.specs.Sound.{IsSound, has_pool}
-use Rattle.rm_rules.specs.Change.{runner_of}
 use Rattle.rm_rules.specs.Healthy.{AreSized, AreNumbered}
 use Rattle.rm_rules.proofs.Shuffling.{shuffled-bytes}
 use Rattle.accounts.specs.Accounts.{names_in, has_name, has_query, taken, given_back}

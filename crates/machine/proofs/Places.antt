@@ -1,6 +1,7 @@
 -- A list in which one item was changed in its place.
 use Rattle.std.proofs.Common.{◌≡◌, ℕ, Bool, Option, Some, None, List, get_or, position, set, sym, ap, ◌∙◌}
-use Rattle.rm_rules.proofs.Places.{changed_first, changed-found, changed-absent}
+use Rattle.rm_rules.specs.State.{changed_first}
+use Rattle.rm_rules.proofs.Places.{changed-found, changed-absent}
 
 -- the first that passes was found and changed, or none passes
 pub set-changed : {A : Type 0} (test : A → Bool) (act : A → A) (xs ls ms ys : List A) (x : A) (i : ℕ) → ls ≡ xs → Some i ≡ position test ls → ms ≡ xs → x ≡ get_or ms i x → ys ≡ set xs i (act x)

@@ -3,10 +3,9 @@ use Rattle.std.proofs.Common.{◌≡◌, ◌≤◌, ◌<◌, ℕ, ◌+◌, suc, 
 use Rattle.std.specs.List.{find, prefix_len}
 use Rattle.std.proofs.lemmas.List.{drop_more}
 use Rattle.rm_rules.specs.declared.state.Runner.{Runner}
-use Rattle.rm_rules.specs.State.{State, without_runner}
+use Rattle.rm_rules.specs.State.{State, without_runner, runner_of}
 use Rattle.rm_rules.specs.Holdings.{holding, holdings, holdings_of}
 use Rattle.rm_rules.specs.Accounting.{account_behind}
-use Rattle.rm_rules.specs.Change.{runner_of}
 use Rattle.rm_rules.specs.Healthy.{AreNumbered}
 use Rattle.rm_rules.proofs.Found.{without-unfound}
 use Rattle.accounts.specs.Accounts.{account_of}

@@ -9,14 +9,14 @@ use Rattle.rm_rules.specs.declared.state.Session.{Session}
 use Rattle.rm_rules.specs.declared.state.Runner.{Runner}
 use Rattle.rm_rules.specs.Definitions.{pool_row}
 use Rattle.rm_rules.specs.Ask.{is_too_large}
-use Rattle.rm_rules.specs.State.{State, phase_of, is_active, is_waiting, without, without_waiter}
+use Rattle.rm_rules.specs.State.{State, phase_of, is_active, is_waiting, without, without_waiter, waiter_of}
 use Rattle.rm_rules.specs.Holdings.{holdings_of}
 use Rattle.rm_rules.specs.Accounting.{need, free}
 use Rattle.rm_rules.specs.Admission.{ask_of, first_entitled, admitted, admission}
 use Rattle.rm_rules.specs.Shuffle.{shuffled_state}
 use Rattle.rm_rules.specs.Deadlines.{first_due, first_nowait, timed_out, without_due}
 use Rattle.rm_rules.specs.Settle.{first_too_large, too_large_end, ended_too_large, without_too_large, without_nowait}
-use Rattle.rm_rules.specs.Answers.{waiter_of, queue_place}
+use Rattle.rm_rules.specs.Answers.{queue_place}
 use Rattle.rm_rules.specs.Sound.{has_pool}
 use Rattle.rm_rules.specs.Healthy.{AreInPhase, AreNumbered, IsHealthyWith}
 use Rattle.rm_rules.proofs.Taken.{found_passes, all_among, counted_among}

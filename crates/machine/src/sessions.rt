@@ -1,8 +1,7 @@
 //! Sessions, and the queries of a session.
 ghost use Rattle.std.specs.Prelude.{◌≡◌, ◌<◌, ◌≤◌, ◌==◌, IfSome, position, length};
-ghost use Rattle.rm_rules.specs.State.{session_called, phase_of, with_phase, with_choice, without_session, without_runner, is_idle, is_running, is_ended, live_queries};
-ghost use Rattle.rm_rules.specs.Change.{has_chosen, runner_of};
-ghost use Rattle.rm_rules.specs.Answers.{waiter_of};
+ghost use Rattle.rm_rules.specs.State.{session_called, phase_of, with_phase, with_choice, without_session, without_runner, is_idle, is_running, is_ended, live_queries, runner_of, waiter_of};
+ghost use Rattle.rm_rules.specs.Change.{has_chosen};
 
 use rm_base::bounded::Bounded;
 use rm_base::limits::SESSIONS_MOST;

@@ -13,9 +13,8 @@ use Rattle.rm_rules.specs.declared.state.Phase.TheVariants as phase
 use Rattle.rm_rules.specs.declared.state.Session.{Session}
 use Rattle.rm_rules.specs.declared.state.Waiter.{Waiter}
 use Rattle.rm_rules.specs.declared.state.Runner.{Runner}
-use Rattle.rm_rules.specs.State.{State, session_called, phase_of, with_phase, is_ended, is_defined, is_definition, counted_entries}
-use Rattle.rm_rules.specs.Answers.{is_defining, told, told_in_phase, told_running, told_waiting, waiter_of, reply_of, answered}
-use Rattle.rm_rules.specs.Change.{runner_of}
+use Rattle.rm_rules.specs.State.{State, session_called, phase_of, with_phase, is_ended, is_defined, is_definition, counted_entries, runner_of, waiter_of}
+use Rattle.rm_rules.specs.Answers.{is_defining, told, told_in_phase, told_running, told_waiting, reply_of, answered}
 use Rattle.rm_rules.specs.Step.{recorded}
 use Rattle.rm_rules.specs.Owed.{owed}
 use Rattle.rm_rules.specs.Healthy.{HasRoom, IsHealthyWith, IsHealthy, counted_for, defining_for}

@@ -7,11 +7,10 @@ use Rattle.std.proofs.lemmas.Bool.{eqb-true, eq-eqb}
 use Rattle.std.proofs.lemmas.List.Sums.{sum_by-cons, sum_by_push}
 use Rattle.std.proofs.lemmas.List.{length_push}
 use Rattle.rm_base.specs.Ranges.{passes_if_set}
-use Rattle.rm_rules.specs.State.{without}
+use Rattle.rm_rules.specs.State.{without, changed_first}
 use Rattle.rm_rules.specs.Healthy.{one_if}
 use Rattle.rm_rules.proofs.Taken.{sum_without, length_without, found_passes, and_left, and_right, and_both, all_without, all_push}
 use Rattle.rm_rules.proofs.Found.{without-unfound}
-use Rattle.rm_rules.proofs.Places.{changed_first}
 
 -- the sum with what is found changed
 sum-turn : {A : Type 0} (f : A → ℕ) (test : A → Bool) (act : A → A) (x y : A) (xs : List A) (b : Bool) → cond b (Some x) (find test xs) ≡ Some y

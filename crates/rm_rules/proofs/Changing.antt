@@ -6,27 +6,37 @@ use Rattle.std.proofs.lemmas.Bool.{eqb-true, false≢true}
 use Rattle.rm_base.specs.declared.limits.TheConstants.{SESSIONS_MOST}
 use Rattle.rm_base.specs.declared.definitions.Definitions.{Definitions}
 use Rattle.rm_base.specs.declared.event.Event.{Event}
-use Rattle.rm_base.specs.declared.event.Event.TheVariants.{Define, Open, SetPool, Submit, Poll, Finish, Close}
+use Rattle.rm_base.specs.declared.event.Event.TheVariants.{Define, Open, SetPool, SetCap, Submit, Poll, Check, GiveWay, Finish, Cancel, Close}
 use Rattle.rm_base.specs.declared.name.Name.{Name}
 use Rattle.rm_base.specs.declared.refusal.Refusal.{Refusal}
 use Rattle.rm_base.specs.declared.refusal.Refusal.TheVariants as refusal
 use Rattle.rm_base.specs.declared.reply.End.{End}
+use Rattle.rm_base.specs.declared.reply.Reply.{Reply}
 use Rattle.rm_base.specs.declared.reply.Reply.TheVariants as reply
+use Rattle.rm_base.specs.Name.{same_name}
 use Rattle.rm_base.specs.declared.statement.Statement.{Statement}
 use Rattle.rm_rules.specs.declared.answer.Answer.{Answer}
-use Rattle.rm_rules.specs.declared.answer.Answer.TheVariants.{Says, Tells}
+use Rattle.rm_rules.specs.declared.answer.Answer.TheVariants.{Says, Tells, Collects}
 use Rattle.rm_rules.specs.declared.state.Phase.{Phase}
 use Rattle.rm_rules.specs.declared.state.Phase.TheVariants as phase
 use Rattle.rm_rules.specs.declared.state.Session.{Session}
+use Rattle.rm_rules.specs.declared.state.Waiter.{Waiter}
+use Rattle.rm_rules.specs.declared.state.Runner.{Runner}
+use Rattle.rm_rules.specs.declared.verdict.Verdict.{Verdict}
+use Rattle.rm_rules.specs.declared.verdict.Verdict.TheVariants as verdict
+use Rattle.rm_rules.specs.declared.verdict.Verdict.TheVariants.{GoesTo}
 use Rattle.rm_rules.specs.Definitions.{pool_row, user_called, usage}
 use Rattle.rm_rules.specs.Refusals.{pool_missing, user_missing}
 use Rattle.rm_rules.specs.Acceptance.{accepted}
 use Rattle.rm_rules.specs.Ask.{is_too_large}
-use Rattle.rm_rules.specs.State.{State, session_called, session_of, if_opened_by, session_pool, with_choice, is_idle, is_active, is_running, live_queries}
-use Rattle.rm_rules.specs.Change.{Change, quiet, changing, with_session, size_refusal, session_busy, not_live, not_running, usage_missing, sessions_full, journal_full, is_journal_full, defined, defining_to, opened, opening_refusal, has_chosen, chosen, choosing_refusal, choosing, submitted, submitting_refusal, submitting, polled, polling, collected, finished, finishing, session_running, closed, closing, change, tried}
+use Rattle.rm_rules.specs.State.{State, is_defined, waiter_of, runner_of, with_cap, session_called, session_of, if_opened_by, session_pool, with_choice, is_idle, is_active, is_running, live_queries}
+use Rattle.rm_rules.specs.Change.{Change, quiet, changing, with_session, size_refusal, session_busy, not_live, not_running, usage_missing, sessions_full, journal_full, is_journal_full, defined, defining_to, opened, opening_refusal, has_chosen, chosen, choosing_refusal, choosing, submitted, submitting_refusal, submitting, polled, polling, collected, finished, finishing, session_running, closed, closing, within_moments, has_cap, cap_set, capping, with_runner, checked_to, checked, checking, giving_way_to, giving_way, withdrawn, stopped, cancelled, cancelled_by, cancelling, change, tried}
+use Rattle.rm_rules.specs.Target.{running_time, verdict}
+use Rattle.rm_rules.specs.Moving.{takes, moved_on, asked_to_leave, gave_way, asked_to_stop}
 use Rattle.rm_rules.specs.Answers.{is_defining}
 use Rattle.rm_rules.specs.Sound.{has_pool}
 use Rattle.rm_rules.proofs.Taken.{found_passes, not_true}
+use Rattle.rm_rules.proofs.Verdicts.{IsCheckReply, says_go, says_way, says_end, says_stop, verdict-says}
 use Rattle.rm_rules.proofs.Refused.{not-refused, first-none, not_above, unless-ok}
 
 -- the session that an event speaks of
@@ -130,23 +140,56 @@ may_submit s x pool floor h =
 abbrev pub choice_made : State → Session → Name → Change
 choice_made s x pool = changing (record s { sessions = with_choice x.number pool s.sessions }) (Says reply.Set)
 
+abbrev pub cap_made : State → Session → Option ℕ → Change
+cap_made s x cap = changing (record s { sessions = with_cap x.number cap s.sessions }) (Says reply.Set)
+
+-- a check of the session's running query comes to this
+pub record IsChecked (s : State) (seat session : ℕ) (x : Session) (r : Runner) (v : Verdict) : Type 0 where
+  pub found : session_of s seat session ≡ Some x
+  pub runs : runner_of s.running x.number ≡ Some r
+  pub comes_to : verdict s.definitions r x.cap_ms (running_time r s.clock) ≡ v
+
+-- one session asks for the end of another's query
+pub record MayCancel (s : State) (seat by target : ℕ) (x y : Session) : Type 0 where
+  pub found : session_of s seat by ≡ Some x
+  pub called : session_called s.sessions target ≡ Some y
+  pub of_user : same_name x.user y.user ≡ true
+
 -- what each accepted event changes, if it changes anything
 pub data IsChange (s : State) (seat : ℕ) : Event → Change → Type 0 where
   defines : (statement : Statement) (new : Definitions) → accepted s.definitions statement ≡ Ok new → IsChange s seat (Define statement) (defined s new)
   opens : (user : Name) → MayOpen s user → IsChange s seat (Open user) (opened s seat user)
   chooses : (session : ℕ) (pool : Name) (x : Session) → session_of s seat session ≡ Some x → MayChoose s x pool → has_chosen x pool ≡ false
       → IsChange s seat (SetPool session pool) (choice_made s x pool)
+  caps : (session : ℕ) (cap : Option ℕ) (x : Session) → session_of s seat session ≡ Some x → is_journal_full s (live_queries s.sessions) (length s.sessions) ≡ false
+      → has_cap x (within_moments cap) ≡ false → IsChange s seat (SetCap session cap) (cap_made s x (within_moments cap))
   submits : (session floor : ℕ) (x : Session) → session_of s seat session ≡ Some x → MaySubmit s x (session_pool s.definitions x) floor
       → IsChange s seat (Submit session floor) (submitted s x (session_pool s.definitions x) floor)
   collects : (session : ℕ) (x : Session) (end : End) → session_of s seat session ≡ Some x → x.phase ≡ phase.Ended end
       → IsChange s seat (Poll session) (collected s x end)
+  moves_on : (session : ℕ) (x : Session) (r : Runner) (pool : Name) → IsChecked s seat session x r (GoesTo pool) → takes s r pool ≡ true
+      → IsChange s seat (Check session) (changing (moved_on s r pool) (Says (reply.MovedOn pool)))
+  asks : (session : ℕ) (x : Session) (r : Runner) (pool : Name) → IsChecked s seat session x r (GoesTo pool)
+      → IsChange s seat (Check session) (changing (asked_to_leave s r pool) (Says (reply.GiveWay pool)))
+  gives_way : (session : ℕ) (x : Session) (r : Runner) (pool : Name) → session_of s seat session ≡ Some x → runner_of s.running x.number ≡ Some r → r.leaving ≡ Some pool
+      → IsChange s seat (GiveWay session) (changing (gave_way s r pool) (Collects r.session))
   finishes : (session : ℕ) (x : Session) → session_of s seat session ≡ Some x → is_running x.phase ≡ true → IsChange s seat (Finish session) (finished s x)
+  withdraws : (by target : ℕ) (x y : Session) (w : Waiter) → MayCancel s seat by target x y → waiter_of s.waiting y.number ≡ Some w
+      → IsChange s seat (Cancel by target) (withdrawn s w)
+  stops : (by target : ℕ) (x y : Session) (r : Runner) → MayCancel s seat by target x y → runner_of s.running y.number ≡ Some r → r.cancelled ≡ false
+      → IsChange s seat (Cancel by target) (changing (asked_to_stop s r) (Says reply.Cancelled))
   closes : (session : ℕ) (x : Session) → session_of s seat session ≡ Some x → is_running x.phase ≡ false → IsChange s seat (Close session) (closed s x)
 
 -- what an event does where it changes nothing
 pub data IsQuiet (s : State) (seat : ℕ) : Event → Answer → Type 0 where
   refuses : (event : Event) (r : Refusal) → change s seat event ≡ Err r → IsQuiet s seat event (Says (reply.Refused r))
   repeats : (session : ℕ) (pool : Name) (x : Session) → session_of s seat session ≡ Some x → has_chosen x pool ≡ true → IsQuiet s seat (SetPool session pool) (Says reply.Set)
+  caps_again : (session : ℕ) (cap : Option ℕ) (x : Session) → session_of s seat session ≡ Some x → has_cap x (within_moments cap) ≡ true
+      → IsQuiet s seat (SetCap session cap) (Says reply.Set)
+  judges : (session : ℕ) (x : Session) (r : Runner) (answer : Reply) → IsChecked s seat session x r (verdict.Says answer) → IsCheckReply answer
+      → IsQuiet s seat (Check session) (Says answer)
+  stops_again : (by target : ℕ) (x y : Session) (r : Runner) → MayCancel s seat by target x y → runner_of s.running y.number ≡ Some r → r.cancelled ≡ true
+      → IsQuiet s seat (Cancel by target) (Says reply.Cancelled)
   tells : (session : ℕ) (x : Session) → session_of s seat session ≡ Some x → is_active x.phase ≡ true → IsQuiet s seat (Poll session) (Tells x.number)
 
 -- what is tried: nothing changes and an answer is given, or an event changes something
@@ -154,9 +197,18 @@ pub data IsTried (s : State) (seat : ℕ) (event : Event) : Change → Type 0 wh
   stays : (answer : Answer) → IsQuiet s seat event answer → IsTried s seat event (quiet s answer)
   changes : (c : Change) → IsChange s seat event c → c.changed ≡ true → IsTried s seat event c
 
+check-plain : (answer : Reply) → IsCheckReply answer → is_defined answer ≡ false
+check-plain _ says_go = refl
+check-plain _ (says_way pool) = refl
+check-plain _ (says_end which ran cap) = refl
+check-plain _ says_stop = refl
+
 pub quiet-plain : (s : State) (seat : ℕ) (event : Event) (answer : Answer) → IsQuiet s seat event answer → is_defining answer ≡ false
 quiet-plain s seat _ _ (refuses event r is) = refl
 quiet-plain s seat _ _ (repeats session pool x found same) = refl
+quiet-plain s seat _ _ (caps_again session cap x found same) = refl
+quiet-plain s seat _ _ (judges session x r answer is says) = check-plain answer says
+quiet-plain s seat _ _ (stops_again by target x y r may runs already) = refl
 quiet-plain s seat _ _ (tells session x found active) = refl
 
 -- a change that an event makes, under the name of what it computes to
@@ -176,6 +228,72 @@ choose-turn : (s : State) (seat session : ℕ) (pool : Name) (x : Session) (c : 
 choose-turn s seat session pool x c true found may e h = made-quiet s seat (SetPool session pool) (Says reply.Set) c h (repeats session pool x found e)
 choose-turn s seat session pool x c false found may e h = made-change s seat (SetPool session pool) (choice_made s x pool) c h refl (chooses session pool x found may e)
 
+cap-turn : (s : State) (seat session : ℕ) (cap : Option ℕ) (x : Session) (c : Change) (b : Bool) → session_of s seat session ≡ Some x
+    → is_journal_full s (live_queries s.sessions) (length s.sessions) ≡ false → has_cap x (within_moments cap) ≡ b
+    → cond b (quiet s (Says reply.Set)) (cap_made s x (within_moments cap)) ≡ c → IsTried s seat (SetCap session cap) c
+cap-turn s seat session cap x c true found room e h = made-quiet s seat (SetCap session cap) (Says reply.Set) c h (caps_again session cap x found e)
+cap-turn s seat session cap x c false found room e h = made-change s seat (SetCap session cap) (cap_made s x (within_moments cap)) c h refl (caps session cap x found room e)
+
+-- what is done for a session's running query, where there is one
+with_runner-turn : (act : Runner → Result Change Refusal) (c : Change) (o : Option Runner)
+    → (let r : Result Change Refusal = elim o [ Some x ↦ act x | None ↦ Err refusal.NotLive ] in r ≡ Ok c) → (x : Runner) × (o ≡ Some x) × (act x ≡ Ok c)
+with_runner-turn act c None h = absurd (cc)
+with_runner-turn act c (Some x) h = (x, refl, h)
+
+pub with_runner-ok : (s : State) (n : ℕ) (act : Runner → Result Change Refusal) (c : Change) → with_runner s n act ≡ Ok c
+    → (r : Runner) × (runner_of s.running n ≡ Some r) × (act r ≡ Ok c)
+with_runner-ok s n act c h = with_runner-turn act c (runner_of s.running n) h
+
+move-turn : (s : State) (seat session : ℕ) (x : Session) (r : Runner) (pool : Name) (c : Change) (b : Bool) → IsChecked s seat session x r (GoesTo pool) → takes s r pool ≡ b
+    → cond b (changing (moved_on s r pool) (Says (reply.MovedOn pool))) (changing (asked_to_leave s r pool) (Says (reply.GiveWay pool))) ≡ c
+    → IsTried s seat (Check session) c
+move-turn s seat session x r pool c true is e h =
+    made-change s seat (Check session) (changing (moved_on s r pool) (Says (reply.MovedOn pool))) c h refl (moves_on session x r pool is e)
+move-turn s seat session x r pool c false is e h =
+    made-change s seat (Check session) (changing (asked_to_leave s r pool) (Says (reply.GiveWay pool))) c h refl (asks session x r pool is)
+
+check-turn : (s : State) (seat session : ℕ) (x : Session) (r : Runner) (v : Verdict) (c : Change) → IsChecked s seat session x r v → checked_to s r v ≡ c
+    → IsTried s seat (Check session) c
+check-turn s seat session x r (verdict.Says answer) c is h =
+    made-quiet s seat (Check session) (Says answer) c h
+    (judges session x r answer is (verdict-says s.definitions r x.cap_ms (running_time r s.clock) answer is.comes_to))
+check-turn s seat session x r (GoesTo pool) c is h = move-turn s seat session x r pool c (takes s r pool) is refl h
+
+way-turn : (s : State) (seat session : ℕ) (x : Session) (r : Runner) (o : Option Name) (c : Change) → session_of s seat session ≡ Some x → runner_of s.running x.number ≡ Some r
+    → r.leaving ≡ o → giving_way_to s r o ≡ Ok c → IsTried s seat (GiveWay session) c
+way-turn s seat session x r None c found runs e h = absurd (cc)
+way-turn s seat session x r (Some pool) c found runs e h =
+    let is : changing (gave_way s r pool) (Collects r.session) ≡ c = cc in
+    made-change s seat (GiveWay session) (changing (gave_way s r pool) (Collects r.session)) c is refl (gives_way session x r pool found runs e)
+
+stop-turn : (s : State) (seat by target : ℕ) (x y : Session) (r : Runner) (c : Change) (b : Bool) → MayCancel s seat by target x y → runner_of s.running y.number ≡ Some r
+    → r.cancelled ≡ b → cond b (quiet s (Says reply.Cancelled)) (changing (asked_to_stop s r) (Says reply.Cancelled)) ≡ c → IsTried s seat (Cancel by target) c
+stop-turn s seat by target x y r c true may runs e h = made-quiet s seat (Cancel by target) (Says reply.Cancelled) c h (stops_again by target x y r may runs e)
+stop-turn s seat by target x y r c false may runs e h =
+    made-change s seat (Cancel by target) (changing (asked_to_stop s r) (Says reply.Cancelled)) c h refl (stops by target x y r may runs e)
+
+cancel-turn : (s : State) (seat by target : ℕ) (x y : Session) (o : Option Waiter) (c : Change) → MayCancel s seat by target x y → waiter_of s.waiting y.number ≡ o
+    → (let r : Result Change Refusal = elim o [ Some w ↦ Ok (withdrawn s w) | None ↦ with_runner s y.number (λ r. Ok (stopped s r)) ] in r ≡ Ok c)
+    → IsTried s seat (Cancel by target) c
+cancel-turn s seat by target x y (Some w) c may waits h =
+    let is : withdrawn s w ≡ c = cc in
+    made-change s seat (Cancel by target) (withdrawn s w) c is refl (withdraws by target x y w may waits)
+cancel-turn s seat by target x y None c may waits h =
+    let found = with_runner-ok s y.number (λ r. Ok (stopped s r)) c h in
+    let is : stopped s found.0 ≡ c = cc in
+    stop-turn s seat by target x y found.0 c found.0.cancelled may found.1 refl is
+
+user-turn : (s : State) (seat by target : ℕ) (x y : Session) (b : Bool) (c : Change) → session_of s seat by ≡ Some x → session_called s.sessions target ≡ Some y
+    → same_name x.user y.user ≡ b → (let r : Result Change Refusal = cond b (cancelled s y) (Err refusal.NotLive) in r ≡ Ok c) → IsTried s seat (Cancel by target) c
+user-turn s seat by target x y true c found called e h =
+    cancel-turn s seat by target x y (waiter_of s.waiting y.number) c (record { found = found; called = called; of_user = e }) refl h
+user-turn s seat by target x y false c found called e h = absurd (cc)
+
+target-turn : (s : State) (seat by target : ℕ) (x : Session) (o : Option Session) (c : Change) → session_of s seat by ≡ Some x → session_called s.sessions target ≡ o
+    → (let r : Result Change Refusal = elim o [ Some y ↦ cancelled_by s x y | None ↦ Err refusal.NoSuchSession ] in r ≡ Ok c) → IsTried s seat (Cancel by target) c
+target-turn s seat by target x None c found called h = absurd (cc)
+target-turn s seat by target x (Some y) c found called h = user-turn s seat by target x y (same_name x.user y.user) c found called refl h
+
 poll-turn : (s : State) (seat session : ℕ) (x : Session) (p : Phase) (c : Change) → session_of s seat session ≡ Some x → x.phase ≡ p → is_idle p ≡ false → polled s x p ≡ c
     → IsTried s seat (Poll session) c
 poll-turn s seat session x phase.Idle c found e live h = absurd (false≢true (sym live))
@@ -193,6 +311,27 @@ ok-tried s seat (SetPool session pool) c ok =
     let x = found.0 in
     let made = unless-ok (choosing_refusal s x pool) (chosen s x pool) c found.2 in
     choose-turn s seat session pool x c (has_chosen x pool) found.1 (may_choose s x pool made.0) refl made.1
+ok-tried s seat (SetCap session cap) c ok =
+    let found = with_session-ok s seat session (capping s cap) c ok in
+    let x = found.0 in
+    let made = unless-ok (journal_full s (live_queries s.sessions) (length s.sessions)) (cap_set s x (within_moments cap)) c found.2 in
+    cap-turn s seat session cap x c (has_cap x (within_moments cap)) found.1
+    (not-refused (is_journal_full s (live_queries s.sessions) (length s.sessions)) _ made.0) refl made.1
+ok-tried s seat (Check session) c ok =
+    let found = with_session-ok s seat session (checking s) c ok in
+    let x = found.0 in
+    let runs = with_runner-ok s x.number (λ r. Ok (checked s x r)) c found.2 in
+    let r = runs.0 in
+    let is : checked s x r ≡ c = cc in
+    check-turn s seat session x r (verdict s.definitions r x.cap_ms (running_time r s.clock)) c (record { found = found.1; runs = runs.1; comes_to = refl }) is
+ok-tried s seat (GiveWay session) c ok =
+    let found = with_session-ok s seat session (giving_way s) c ok in
+    let x = found.0 in
+    let runs = with_runner-ok s x.number (λ r. giving_way_to s r r.leaving) c found.2 in
+    way-turn s seat session x runs.0 runs.0.leaving c found.1 runs.1 refl runs.2
+ok-tried s seat (Cancel by target) c ok =
+    let found = with_session-ok s seat by (cancelling s target) c ok in
+    target-turn s seat by target found.0 (session_called s.sessions target) c found.1 refl found.2
 ok-tried s seat (Submit session floor) c ok =
     let found = with_session-ok s seat session (submitting s floor) c ok in
     let x = found.0 in
@@ -238,6 +377,12 @@ rest-changed s seat _ _ (submits session floor x found may) = record { journal =
 rest-changed s seat _ _ (collects session x end found ended) = record { journal = refl; clock = refl; room = refl; in_force = refl }
 rest-changed s seat _ _ (finishes session x found runs) = record { journal = refl; clock = refl; room = refl; in_force = refl }
 rest-changed s seat _ _ (closes session x found rests) = record { journal = refl; clock = refl; room = refl; in_force = refl }
+rest-changed s seat _ _ (caps session cap x found room other) = record { journal = refl; clock = refl; room = refl; in_force = refl }
+rest-changed s seat _ _ (moves_on session x r pool is taken) = record { journal = refl; clock = refl; room = refl; in_force = refl }
+rest-changed s seat _ _ (asks session x r pool is) = record { journal = refl; clock = refl; room = refl; in_force = refl }
+rest-changed s seat _ _ (gives_way session x r pool found runs leaves) = record { journal = refl; clock = refl; room = refl; in_force = refl }
+rest-changed s seat _ _ (withdraws by target x y w may waits) = record { journal = refl; clock = refl; room = refl; in_force = refl }
+rest-changed s seat _ _ (stops by target x y r may runs first) = record { journal = refl; clock = refl; room = refl; in_force = refl }
 
 pub rest-tried : (s : State) (seat : ℕ) (event : Event) (c : Change) → IsTried s seat event c → LeavesJournal s c.state
 rest-tried s seat event _ (stays answer still) = record { journal = refl; clock = refl; room = refl; in_force = refl }

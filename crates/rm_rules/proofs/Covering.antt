@@ -13,13 +13,13 @@ use Rattle.rm_rules.specs.declared.state.Reserve.{Reserve}
 use Rattle.rm_rules.specs.declared.state.Waiter.{Waiter}
 use Rattle.rm_rules.specs.declared.state.Runner.{Runner}
 use Rattle.rm_rules.specs.Definitions.{total, user_pools}
-use Rattle.rm_rules.specs.State.{State, start, none_ended, without, without_runner}
+use Rattle.rm_rules.specs.State.{State, start, none_ended, without, without_runner, runner_of}
 use Rattle.rm_rules.specs.Holdings.{Holdings, holding, holdings, holdings_of, reserves_of, reserve_names}
 use Rattle.rm_rules.specs.Accounting.{held_in, free, need, kept_back}
 use Rattle.rm_rules.specs.Admission.{admitted, started, first_entitled}
 use Rattle.rm_rules.specs.Shuffle.{shuffled, shuffled_state}
 use Rattle.rm_rules.specs.Acceptance.{accepted, is_judged}
-use Rattle.rm_rules.specs.Change.{defined, runner_of}
+use Rattle.rm_rules.specs.Change.{defined}
 use Rattle.rm_rules.specs.Sound.{IsSound}
 use Rattle.rm_rules.specs.Healthy.{AreSized, AreThere, AreWithinMemory, AreCovered}
 use Rattle.rm_rules.proofs.Taken.{all_push, sum_without}

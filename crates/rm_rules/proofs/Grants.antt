@@ -13,12 +13,12 @@ use Rattle.rm_rules.specs.declared.state.Waiter.{Waiter}
 use Rattle.rm_rules.specs.declared.state.Runner.{Runner}
 use Rattle.rm_rules.specs.Definitions.{pool_row}
 use Rattle.rm_rules.specs.Ask.{cap}
-use Rattle.rm_rules.specs.State.{State, without, without_waiter, without_runner, session_pool, phase_of, is_running}
+use Rattle.rm_rules.specs.State.{State, without, without_waiter, without_runner, session_pool, phase_of, is_running, runner_of}
 use Rattle.rm_rules.specs.Holdings.{holdings}
 use Rattle.rm_rules.specs.Accounting.{used}
 use Rattle.rm_rules.specs.Admission.{started, admitted, first_entitled}
 use Rattle.rm_rules.specs.Settle.{settled}
-use Rattle.rm_rules.specs.Change.{Change, runner_of, grant_of, new_waiter, defined, opened, submitted, collected, finished, closed}
+use Rattle.rm_rules.specs.Change.{Change, grant_of, new_waiter, defined, opened, submitted, collected, finished, closed}
 use Rattle.rm_rules.specs.Answers.{told, reply_of}
 use Rattle.rm_rules.specs.Step.{entered, moved_to, has_due, found_at, attempted, step}
 use Rattle.rm_rules.specs.Healthy.{AreNumbered, IsHealthy}

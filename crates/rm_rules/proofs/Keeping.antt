@@ -20,9 +20,9 @@ use Rattle.rm_rules.specs.declared.state.Phase.TheVariants as phase
 use Rattle.rm_rules.specs.declared.state.Session.{Session}
 use Rattle.rm_rules.specs.declared.state.Waiter.{Waiter}
 use Rattle.rm_rules.specs.declared.state.Runner.{Runner}
-use Rattle.rm_rules.specs.State.{State, session_called, session_pool, phase_of, with_phase, with_choice, without_runner, is_idle, is_active, is_waiting, is_running, is_ended, live_queries, counted_entries}
+use Rattle.rm_rules.specs.State.{State, session_called, session_pool, phase_of, with_phase, with_choice, without_runner, is_idle, is_active, is_waiting, is_running, is_ended, live_queries, counted_entries, runner_of}
 use Rattle.rm_rules.specs.Acceptance.{accepted}
-use Rattle.rm_rules.specs.Change.{Change, defined, opened, new_session, submitted, new_waiter, collected, finished, runner_of, is_journal_full}
+use Rattle.rm_rules.specs.Change.{Change, defined, opened, new_session, submitted, new_waiter, collected, finished, is_journal_full}
 use Rattle.rm_rules.specs.Replay.{IsFormed}
 use Rattle.rm_rules.specs.Sound.{has_pool}
 use Rattle.rm_rules.specs.Owed.{owed, entries_moving, entries_waiting, entries_running}

@@ -2,7 +2,7 @@
 use Rattle.std.proofs.Common.{◌≡◌, ◌≤◌, ◌<◌, ℕ, ◌+◌, suc, Bool, true, false, cond, not, ltb, Option, Some, None, List, [], ◌∷◌, length, get_or, take, take_while, find, refl, ap, sym, ◌∙◌, arith, remove, position, set}
 use Rattle.std.specs.List.{position_or_len}
 use Rattle.std.proofs.lemmas.Bool.Decides.{nat_tests}
-use Rattle.rm_rules.specs.State.{without}
+use Rattle.rm_rules.specs.State.{without, changed_first}
 
 -- what a place that was found is
 found-turn : (b : Bool) (n i : ℕ) → cond b (Some n) None ≡ Some i → n ≡ i
@@ -88,11 +88,6 @@ find-absent test xs absent = find-none test xs (position-past test xs absent)
 -- what stands before the one that was found
 pub before-found : {A : Type 0} (test : A → Bool) (xs : List A) (i : ℕ) → position test xs ≡ Some i → take_while (λ x. not (test x)) xs ≡ take i xs
 before-found test xs i found = ap (λ n. take n xs) (position-is test xs i found)
-
--- the list with the first that passes the test changed
-abbrev pub changed_first : {A : Type 0} → (A → Bool) → (A → A) → List A → List A
-changed_first test act [] = []
-changed_first test act (x ∷ xs) = cond (test x) (act x ∷ xs) (x ∷ changed_first test act xs)
 
 changed-turn : {A : Type 0} (test : A → Bool) (act : A → A) (x : A) (xs : List A) (d : A) (b : Bool)
     → (position_or_len test xs < length xs → changed_first test act xs ≡ set xs (position_or_len test xs) (act (get_or xs (position_or_len test xs) d)))

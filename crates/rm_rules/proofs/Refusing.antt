@@ -14,10 +14,10 @@ use Rattle.rm_rules.specs.declared.state.Phase.TheVariants as phase
 use Rattle.rm_rules.specs.declared.state.Session.{Session}
 use Rattle.rm_rules.specs.declared.state.Waiter.{Waiter}
 use Rattle.rm_rules.specs.declared.state.Runner.{Runner}
-use Rattle.rm_rules.specs.State.{State, session_called, phase_of, with_phase, is_idle, is_active, is_waiting, is_running}
+use Rattle.rm_rules.specs.State.{State, session_called, phase_of, with_phase, is_idle, is_active, is_waiting, is_running, runner_of, waiter_of}
 use Rattle.rm_rules.specs.Settle.{settled}
-use Rattle.rm_rules.specs.Change.{Change, quiet, change, tried, runner_of}
-use Rattle.rm_rules.specs.Answers.{told, told_in_phase, told_running, told_waiting, waiter_of, reply_of}
+use Rattle.rm_rules.specs.Change.{Change, quiet, change, tried}
+use Rattle.rm_rules.specs.Answers.{told, told_in_phase, told_running, told_waiting, reply_of}
 use Rattle.rm_rules.specs.Step.{Outcome, noted, recorded, entered, quietly, moved_to, has_due, found_at, attempted, step, left_refused}
 use Rattle.rm_rules.specs.Replay.{IsFormed}
 use Rattle.rm_rules.specs.Healthy.{AreInPhase, IsHealthy, one_if}

@@ -18,11 +18,11 @@ use Rattle.rm_rules.specs.declared.state.Phase.TheVariants as phase
 use Rattle.rm_rules.specs.declared.state.Session.{Session}
 use Rattle.rm_rules.specs.declared.state.Waiter.{Waiter}
 use Rattle.rm_rules.specs.declared.state.Runner.{Runner}
-use Rattle.rm_rules.specs.State.{State, session_called, session_of, if_opened_by, session_pool, phase_of, with_phase, with_choice, without_session, is_idle, is_running, is_ended, live_queries}
+use Rattle.rm_rules.specs.State.{State, session_called, session_of, if_opened_by, session_pool, phase_of, with_phase, with_choice, without_session, is_idle, is_running, is_ended, live_queries, runner_of, waiter_of, changed_first}
 use Rattle.rm_rules.specs.Refusals.{refused_if, first_refusal, unless_refused, user_missing}
 use Rattle.rm_rules.specs.Settle.{settled}
-use Rattle.rm_rules.specs.Change.{Change, quiet, tried, new_session, usage_missing, size_refusal, journal_full, submitting, submitted, finished, finishing, runner_of, grant_of}
-use Rattle.rm_rules.specs.Answers.{told, told_in_phase, told_running, told_waiting, waiter_of, reply_of, answered}
+use Rattle.rm_rules.specs.Change.{Change, quiet, tried, new_session, usage_missing, size_refusal, journal_full, submitting, submitted, finished, finishing, grant_of}
+use Rattle.rm_rules.specs.Answers.{told, told_in_phase, told_running, told_waiting, reply_of, answered}
 use Rattle.rm_rules.specs.Step.{moved_to, has_due, found_at, attempted, step}
 use Rattle.rm_rules.specs.Replay.{IsFormed, replay, IsLegal, own_entries}
 use Rattle.rm_rules.specs.Sessions.{session_in}
@@ -31,7 +31,6 @@ use Rattle.rm_rules.specs.Grants.{Run, run_by, run_of, runner_called, query_of, 
 use Rattle.rm_rules.proofs.Taken.{found_passes, found_counted, counted_among, all_found, or_left_false, or_right_false}
 use Rattle.rm_rules.proofs.Found.{found-push, found-split, found-same, find-without, none-left}
 use Rattle.rm_rules.proofs.Changed.{found-changed, other-changed}
-use Rattle.rm_rules.proofs.Places.{changed_first}
 use Rattle.rm_rules.proofs.Phases.{has_number, phased, choosing_pool, phase_in, differ, one_if-most, phase_of-found}
 use Rattle.rm_rules.proofs.Admitting.{one_or_none}
 use Rattle.rm_rules.proofs.Settling.{due-keeps, settled-keeps, rest-due}

@@ -18,7 +18,7 @@ use Rattle.rm_rules.specs.declared.state.Runner.{Runner}
 use Rattle.rm_rules.specs.Definitions.{pool_row}
 use Rattle.rm_rules.specs.Refusals.{refused_if}
 use Rattle.rm_rules.specs.Ask.{too_large}
-use Rattle.rm_rules.specs.State.{State, session_called, session_of, session_pool, with_phase}
+use Rattle.rm_rules.specs.State.{State, session_called, session_of, session_pool, with_phase, runner_of}
 use Rattle.rm_rules.specs.Holdings.{Holdings, holdings_of, holdings, holding}
 use Rattle.rm_rules.specs.Accounting.{own_of, used, account_behind}
 use Rattle.rm_rules.specs.Admission.{started}
@@ -26,7 +26,7 @@ use Rattle.rm_rules.specs.Deadlines.{first_due, is_due}
 use Rattle.rm_rules.specs.Settle.{settled}
 use Rattle.rm_rules.specs.Settled.{IsSettled}
 use Rattle.rm_rules.specs.Sound.{has_pool}
-use Rattle.rm_rules.specs.Change.{Change, new_waiter, submitted, runner_of}
+use Rattle.rm_rules.specs.Change.{Change, new_waiter, submitted}
 use Rattle.rm_rules.specs.Answers.{told, told_in_phase, told_running, reply_of}
 use Rattle.rm_rules.specs.Step.{moved_to, has_due, found_at, attempted, step}
 use Rattle.rm_rules.specs.Healthy.{IsHealthy}

@@ -1,5 +1,5 @@
 -- What is replied once an event has settled, and what that collects.
-use Rattle.std.specs.Prelude.{ℕ, ◌+◌, ◌==◌, not, Bool, false, List, Option, Some, None, length, find, position, take_while, unwrap_or, if◌then◌else◌}
+use Rattle.std.specs.Prelude.{ℕ, ◌+◌, ◌==◌, not, Bool, false, List, Option, Some, None, length, position, take_while, unwrap_or, if◌then◌else◌}
 use Rattle.rm_base.specs.declared.refusal.Refusal.TheVariants as refusal
 use Rattle.rm_base.specs.declared.reply.Reply.{Reply}
 use Rattle.rm_base.specs.declared.reply.Reply.TheVariants as reply
@@ -10,10 +10,9 @@ use Rattle.rm_rules.specs.declared.state.Phase.TheVariants as phase
 use Rattle.rm_rules.specs.declared.state.Session.{Session}
 use Rattle.rm_rules.specs.declared.state.Waiter.{Waiter}
 use Rattle.rm_rules.specs.declared.state.Runner.{Runner}
-use Rattle.rm_rules.specs.State.{State, is_defined, session_called, phase_of, with_phase, is_ended}
+use Rattle.rm_rules.specs.State.{State, is_defined, session_called, waiter_of, runner_of, phase_of, with_phase, is_ended}
 use Rattle.rm_rules.specs.Holdings.{holding, holdings, holdings_of}
 use Rattle.rm_rules.specs.Accounting.{account_behind}
-use Rattle.rm_rules.specs.Change.{runner_of}
 
 -- the answer accepts a statement
 abbrev pub is_defining : Answer → Bool
@@ -28,10 +27,7 @@ told_running s session (Some r) =
     let account = account_behind (holdings_of s) (holdings (take_while (λ x. not (x.session == session)) s.running)) (holding r) in
     reply.Admitted r.query r.pool r.grant account.own account.borrowed
 
--- the session's waiting query, and its place in the queue, counted from 1
-abbrev pub waiter_of : List Waiter → ℕ → Option Waiter
-waiter_of waiting session = find (λ w. w.session == session) waiting
-
+-- the place in the queue of the session's waiting query, counted from 1
 abbrev pub queue_place : List Waiter → ℕ → ℕ
 queue_place waiting session = unwrap_or (position (λ w. w.session == session) waiting) (length waiting) + 1
 

@@ -1,11 +1,12 @@
 -- What each event is refused with, and what it changes.
-use Rattle.std.specs.Prelude.{ℕ, true, false, ◌+◌, ◌*◌, Bool, ◌==◌, nat_le, nat_lt, not, List, [], ◌∷◌, ◌++◌, Option, Some, None, Result, Ok, Err, length, find, if◌then◌else◌}
-use Rattle.rm_base.specs.declared.limits.TheConstants.{SESSIONS_MOST, ENTRIES_A_QUERY, ENTRIES_A_SESSION}
+use Rattle.std.specs.Prelude.{ℕ, true, false, ◌+◌, ◌*◌, Bool, ◌==◌, nat_le, nat_lt, not, List, [], ◌∷◌, ◌++◌, Option, Some, None, is_none, option_map, min, Result, Ok, Err, length, if◌then◌else◌}
+use Rattle.rm_base.specs.declared.limits.TheConstants.{SESSIONS_MOST, ENTRIES_A_QUERY, ENTRIES_A_SESSION, MOMENT_MOST}
 use Rattle.rm_base.specs.declared.definitions.Definitions.{Definitions}
 use Rattle.rm_base.specs.declared.event.Event.{Event}
-use Rattle.rm_base.specs.declared.event.Event.TheVariants.{Define, Open, SetPool, Submit, Poll, Finish, Close}
+use Rattle.rm_base.specs.declared.event.Event.TheVariants.{Define, Open, SetPool, SetCap, Submit, Poll, Check, GiveWay, Finish, Cancel, Close}
 use Rattle.rm_base.specs.declared.name.Name.{Name}
 use Rattle.rm_base.specs.declared.reply.End.{End}
+use Rattle.rm_base.specs.declared.reply.End.TheVariants as end
 use Rattle.rm_base.specs.declared.statement.Statement.{Statement}
 use Rattle.rm_base.specs.Name.{same_name}
 use Rattle.rm_base.specs.declared.refusal.Refusal.{Refusal}
@@ -18,11 +19,16 @@ use Rattle.rm_rules.specs.declared.state.Phase.TheVariants as phase
 use Rattle.rm_rules.specs.declared.state.Session.{Session}
 use Rattle.rm_rules.specs.declared.state.Waiter.{Waiter}
 use Rattle.rm_rules.specs.declared.state.Runner.{Runner}
+use Rattle.rm_rules.specs.declared.verdict.Verdict.{Verdict}
+use Rattle.rm_rules.specs.declared.verdict.Verdict.TheVariants as verdict
 use Rattle.rm_rules.specs.Definitions.{pool_row, usage}
 use Rattle.rm_rules.specs.Refusals.{refused_if, first_refusal, unless_refused, pool_missing, user_missing}
 use Rattle.rm_rules.specs.Acceptance.{accepted}
 use Rattle.rm_rules.specs.Ask.{is_too_large, too_large}
-use Rattle.rm_rules.specs.State.{State, none_ended, with_choice, session_of, session_pool, with_phase, without_session, without_waiter, without_runner, is_idle, is_running, live_queries, counted_entries}
+use Rattle.rm_rules.specs.State.{State, none_ended, with_choice, with_cap, session_called, session_of, session_pool, waiter_of, runner_of, with_phase, without_session, without_waiter, without_runner, is_idle, is_running, live_queries, counted_entries}
+use Rattle.rm_rules.specs.Deadlines.{ended_as}
+use Rattle.rm_rules.specs.Target.{running_time, verdict}
+use Rattle.rm_rules.specs.Moving.{takes, moved_on, asked_to_leave, gave_way, asked_to_stop}
 
 -- what an accepted event does: the state that it makes, its answer, and whether it changes anything
 pub record Change : Type 0 where
@@ -145,6 +151,25 @@ choosing_refusal s x pool = first_refusal (
 abbrev pub choosing : State → Name → Session → Result Change Refusal
 choosing s pool x = unless_refused (choosing_refusal s x pool) (chosen s x pool)
 
+-- a cap is the greatest moment at most
+abbrev pub within_moments : Option ℕ → Option ℕ
+within_moments cap = option_map (min MOMENT_MOST) cap
+
+-- the session has this runtime cap of its own
+abbrev pub has_cap : Session → Option ℕ → Bool
+has_cap x None = is_none x.cap_ms
+has_cap x (Some cap) = elim x.cap_ms [ Some own ↦ own == cap | None ↦ false ]
+
+-- to set the cap that is there changes nothing
+abbrev pub cap_set : State → Session → Option ℕ → Change
+cap_set s x cap =
+    if has_cap x cap then quiet s (Says reply.Set)
+    else changing (record s { sessions = with_cap x.number cap s.sessions }) (Says reply.Set)
+
+-- SetCap
+abbrev pub capping : State → Option ℕ → Session → Result Change Refusal
+capping s cap x = unless_refused (journal_full s (live_queries s.sessions) (length s.sessions)) (cap_set s x (within_moments cap))
+
 -- a new query of this session, queued now
 abbrev pub new_waiter : State → Session → Name → ℕ → Waiter
 new_waiter s x pool floor = record {
@@ -196,10 +221,53 @@ polled s x (phase.Ended end) = collected s x end
 abbrev pub polling : State → Session → Result Change Refusal
 polling s x = unless_refused (not_live x) (polled s x x.phase)
 
--- the session's running query, and its grant
-abbrev pub runner_of : List Runner → ℕ → Option Runner
-runner_of running session = find (λ r. r.session == session) running
+-- what is done for the session's running query
+abbrev pub with_runner : State → ℕ → (Runner → Result Change Refusal) → Result Change Refusal
+with_runner s session act = elim (runner_of s.running session) [ Some r ↦ act r | None ↦ Err refusal.NotLive ]
 
+-- what a check comes to: the reply alone, or the query moves on, or is to give way
+abbrev pub checked_to : State → Runner → Verdict → Change
+checked_to s r (verdict.Says reply) = quiet s (Says reply)
+checked_to s r (verdict.GoesTo pool) =
+    if takes s r pool then changing (moved_on s r pool) (Says (reply.MovedOn pool))
+    else changing (asked_to_leave s r pool) (Says (reply.GiveWay pool))
+
+abbrev pub checked : State → Session → Runner → Change
+checked s x r = checked_to s r (verdict s.definitions r x.cap_ms (running_time r s.clock))
+
+-- Check
+abbrev pub checking : State → Session → Result Change Refusal
+checking s x = with_runner s x.number (λ r. Ok (checked s x r))
+
+-- GiveWay
+abbrev pub giving_way_to : State → Runner → Option Name → Result Change Refusal
+giving_way_to s r None = Err refusal.NotLive
+giving_way_to s r (Some pool) = Ok (changing (gave_way s r pool) (Collects r.session))
+
+abbrev pub giving_way : State → Session → Result Change Refusal
+giving_way s x = with_runner s x.number (λ r. giving_way_to s r r.leaving)
+
+-- a waiting query that is cancelled ends
+abbrev pub withdrawn : State → Waiter → Change
+withdrawn s w = changing (ended_as end.Cancelled s w) (Says reply.Cancelled)
+
+-- a running one is to stop; to cancel it again changes nothing
+abbrev pub stopped : State → Runner → Change
+stopped s r = if r.cancelled then quiet s (Says reply.Cancelled) else changing (asked_to_stop s r) (Says reply.Cancelled)
+
+-- the session's query, which waits or runs, is cancelled
+abbrev pub cancelled : State → Session → Result Change Refusal
+cancelled s y = elim (waiter_of s.waiting y.number) [ Some w ↦ Ok (withdrawn s w) | None ↦ with_runner s y.number (λ r. Ok (stopped s r)) ]
+
+-- 22 for Cancel: the target is another user's
+abbrev pub cancelled_by : State → Session → Session → Result Change Refusal
+cancelled_by s x y = if same_name x.user y.user then cancelled s y else Err refusal.NotLive
+
+-- Cancel, whose target may be a session of any seat
+abbrev pub cancelling : State → ℕ → Session → Result Change Refusal
+cancelling s target x = elim (session_called s.sessions target) [ Some y ↦ cancelled_by s x y | None ↦ Err refusal.NoSuchSession ]
+
+-- what the session's running query holds
 abbrev pub grant_of : List Runner → ℕ → ℕ
 grant_of running session = elim (runner_of running session) [ Some r ↦ r.grant | None ↦ 0 ]
 
@@ -229,9 +297,13 @@ abbrev pub change : State → ℕ → Event → Result Change Refusal
 change s seat (Define statement) = defining s statement
 change s seat (Open user) = opening s seat user
 change s seat (SetPool session pool) = with_session s seat session (choosing s pool)
+change s seat (SetCap session cap) = with_session s seat session (capping s cap)
 change s seat (Submit session floor) = with_session s seat session (submitting s floor)
 change s seat (Poll session) = with_session s seat session (polling s)
+change s seat (Check session) = with_session s seat session (checking s)
+change s seat (GiveWay session) = with_session s seat session (giving_way s)
 change s seat (Finish session) = with_session s seat session (finishing s)
+change s seat (Cancel by target) = with_session s seat by (cancelling s target)
 change s seat (Close session) = with_session s seat session (closing s)
 
 -- an event as it is tried: one that is refused changes nothing

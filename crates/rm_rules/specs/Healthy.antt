@@ -1,5 +1,5 @@
 -- What every state of the machine keeps. Each fact is over what it reads, so what an event leaves alone stays as it was.
-use Rattle.std.specs.Prelude.{◌≡◌, ℕ, ◌+◌, ◌<◌, ◌≤◌, nat_le, Bool, true, ◌==◌, List, length, count_by, if◌then◌else◌}
+use Rattle.std.specs.Prelude.{◌≡◌, ℕ, ◌+◌, ◌<◌, ◌≤◌, nat_le, Bool, true, ◌&&◌, ◌==◌, List, length, count_by, if◌then◌else◌}
 use Rattle.std.specs.List.{list_all}
 use Rattle.rm_base.specs.declared.definitions.Definitions.{Definitions}
 use Rattle.rm_base.specs.declared.entry.EndCounts.{EndCounts}
@@ -28,6 +28,18 @@ pub record AreThere (d : Definitions) (sessions : List Session) (waiting : List 
   pub runs : list_all (λ r. has_pool d r.pool) running ≡ true
   pub waits : list_all (λ w. has_pool d w.pool) waiting ≡ true
   pub chosen : list_all (λ x. passes_if_set (has_pool d) x.pool) sessions ≡ true
+  pub leaves : list_all (λ r. passes_if_set (has_pool d) r.leaving) running ≡ true
+
+-- no query has run for longer than the clock says that it may have, and none began after it
+abbrev pub ran_by : ℕ → Waiter → Bool
+ran_by clock w = nat_le w.ran clock
+
+abbrev pub began_by : ℕ → Runner → Bool
+began_by clock r = nat_le r.ran r.start && nat_le r.start clock
+
+pub record AreTimed (clock : ℕ) (waiting : List Waiter) (running : List Runner) : Type 0 where
+  pub waits : list_all (ran_by clock) waiting ≡ true
+  pub runs : list_all (began_by clock) running ≡ true
 
 -- what is reserved and lent, and what is granted, is within the memory in force, and that within the machine's
 pub record AreWithinMemory (d : Definitions) (h : Holdings) : Type 0 where
@@ -82,6 +94,7 @@ pub record IsUnsettledWith (entries statements : ℕ) (s : State) : Type 0 where
   pub in_phase : AreInPhase s.sessions s.waiting s.running
   pub opened : AreOpened s.last_session s.sessions
   pub numbered : AreNumbered s.last_query s.waiting s.running
+  pub timed : AreTimed s.clock s.waiting s.running
   -- with the event's own entry still to be made, from its change or the first deadline on until it is made
   pub room : RoomOf entries statements s
 
@@ -95,6 +108,7 @@ pub record IsHealthyWith (entries statements : ℕ) (s : State) : Type 0 where
   pub in_phase : AreInPhase s.sessions s.waiting s.running
   pub opened : AreOpened s.last_session s.sessions
   pub numbered : AreNumbered s.last_query s.waiting s.running
+  pub timed : AreTimed s.clock s.waiting s.running
   pub room : RoomOf entries statements s
 
 -- after every event

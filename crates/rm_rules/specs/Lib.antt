@@ -33,6 +33,7 @@ pub mod Tuples
 pub mod Grouping
 pub mod Ordering
 pub mod Meaning
+pub mod Moving
 pub mod Matching
 pub mod Parting
 pub mod Stages

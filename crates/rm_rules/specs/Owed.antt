@@ -7,7 +7,7 @@ use Rattle.rm_rules.specs.declared.state.Runner.{Runner}
 use Rattle.rm_rules.specs.State.{State, is_ended}
 
 -- One move makes three entries at most: the one that tells the query to give way, with which the move counts, a
--- cancellation behind that, and its giving way.
+-- cancellation behind that, and its giving way. One that moves on makes one.
 abbrev pub entries_moving : ℕ → ℕ
 entries_moving moves = 3 * (MOVES_MOST - moves)
 
@@ -15,11 +15,10 @@ entries_moving moves = 3 * (MOVES_MOST - moves)
 abbrev pub entries_waiting : Waiter → ℕ
 entries_waiting w = entries_moving w.moves + 2
 
--- A running query that is to give way has made the first entry of its last move; one that was cancelled is not cancelled
--- again.
+-- A running query makes those of its moves, and one that ends it. One that is to give way makes that entry and then those
+-- that it makes as it waits. It is cancelled once at most.
 abbrev pub entries_running : Runner → ℕ
-entries_running r =
-    (if is_some r.leaving then entries_moving (r.moves - 1) - 1 else entries_moving r.moves) + (if r.cancelled then 1 else 2)
+entries_running r = entries_moving r.moves + (if is_some r.leaving then 3 else 1) + (if r.cancelled then 0 else 1)
 
 -- An end that nobody has collected makes one.
 abbrev pub owed : List Session → List Waiter → List Runner → ℕ

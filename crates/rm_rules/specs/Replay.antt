@@ -2,7 +2,7 @@
 use Rattle.std.specs.Prelude.{◌≡◌, ℕ, Bool, true, false, ◌==◌, List, [], ◌∷◌, filter}
 use Rattle.rm_base.specs.declared.entry.Entry.{Entry}
 use Rattle.rm_base.specs.declared.event.Event.{Event}
-use Rattle.rm_base.specs.declared.event.Event.TheVariants.{Define, Open, SetPool, Submit, Poll, Finish, Close}
+use Rattle.rm_base.specs.declared.event.Event.TheVariants.{Define, Open, SetPool, SetCap, Submit, Poll, Check, GiveWay, Finish, Cancel, Close}
 use Rattle.rm_base.specs.WellFormed.{IsWellFormed}
 use Rattle.rm_rules.specs.State.{State}
 use Rattle.rm_rules.specs.Acceptance.{is_judged}
@@ -18,9 +18,13 @@ abbrev pub IsFormed : Event → Type 0
 IsFormed (Define statement) = (is_judged statement ≡ true) × IsWellFormed statement
 IsFormed (Open user) = Unit {0}
 IsFormed (SetPool session pool) = Unit {0}
+IsFormed (SetCap session cap) = Unit {0}
 IsFormed (Submit session floor) = Unit {0}
 IsFormed (Poll session) = Unit {0}
+IsFormed (Check session) = Unit {0}
+IsFormed (GiveWay session) = Unit {0}
 IsFormed (Finish session) = Unit {0}
+IsFormed (Cancel by target) = Unit {0}
 IsFormed (Close session) = Unit {0}
 
 -- each entry is just the one that its event makes at its place
@@ -38,9 +42,13 @@ abbrev pub is_define : Event → Bool
 is_define (Define statement) = true
 is_define (Open user) = false
 is_define (SetPool session pool) = false
+is_define (SetCap session cap) = false
 is_define (Submit session floor) = false
 is_define (Poll session) = false
+is_define (Check session) = false
+is_define (GiveWay session) = false
 is_define (Finish session) = false
+is_define (Cancel by target) = false
 is_define (Close session) = false
 
 -- each statement comes from the first seat

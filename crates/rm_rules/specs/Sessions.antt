@@ -1,28 +1,32 @@
 -- What an event leaves of the sessions of others.
 use Rattle.std.specs.Prelude.{◌≡◌, ◌≢◌, ◌⊎◌, ℕ, Option, Some, None}
 use Rattle.rm_base.specs.declared.event.Event.{Event}
-use Rattle.rm_base.specs.declared.event.Event.TheVariants.{Define, Open, SetPool, Submit, Poll, Finish, Close}
+use Rattle.rm_base.specs.declared.event.Event.TheVariants.{Define, Open, SetPool, SetCap, Submit, Poll, Check, GiveWay, Finish, Cancel, Close}
 use Rattle.rm_base.specs.declared.reply.End.{End}
 use Rattle.rm_rules.specs.declared.state.Phase.{Phase}
 use Rattle.rm_rules.specs.declared.state.Phase.TheVariants as phase
 use Rattle.rm_rules.specs.declared.state.Session.{Session}
 use Rattle.rm_rules.specs.State.{State, session_called}
 
--- the session for which an event is
+-- the session for which an event is; Cancel is one of the session that asks for it
 abbrev pub session_in : Event → Option ℕ
 session_in (Define statement) = None
 session_in (Open user) = None
 session_in (SetPool session pool) = Some session
+session_in (SetCap session cap) = Some session
 session_in (Submit session floor) = Some session
 session_in (Poll session) = Some session
+session_in (Check session) = Some session
+session_in (GiveWay session) = Some session
 session_in (Finish session) = Some session
+session_in (Cancel by target) = Some by
 session_in (Close session) = Some session
 
 -- an event of this seat is for another session than this one, or this one is not the seat's
 abbrev pub IsForeign : ℕ → Event → Session → Type 0
 IsForeign seat event x = (session_in event ≢ Some x.number) ⊎ (x.seat ≢ seat)
 
--- what other sessions' events may bring a query: one that waits may begin to run, or end in the queue
+-- what other sessions' events may bring a query: one that waits may begin to run, or end in the queue, cancelled too
 pub data Settles : Phase → Phase → Type 0 where
   Stays : (p : Phase) → Settles p p
   Runs : Settles phase.Waiting phase.Running

@@ -74,15 +74,20 @@ session_of s seat number = option_and_then (if_opened_by seat) (session_called s
 abbrev pub session_pool : Definitions → Session → Name
 session_pool d x = elim x.pool [ Some pool ↦ pool | None ↦ default_pool d x.user ]
 
--- the sessions, with another phase of the one of this number
-abbrev pub with_phase : ℕ → Phase → List Session → List Session
-with_phase number now [] = []
-with_phase number now (x ∷ xs) = if x.number == number then (record x { phase = now }) ∷ xs else x ∷ with_phase number now xs
+-- the list, with the first that passes the test changed
+abbrev pub changed_first : {A : Type 0} → (A → Bool) → (A → A) → List A → List A
+changed_first test act [] = []
+changed_first test act (x ∷ xs) = if test x then act x ∷ xs else x ∷ changed_first test act xs
 
--- the sessions, with another chosen pool of the one of this number
+-- the sessions, with another phase, another chosen pool or another runtime cap of the one of this number
+abbrev pub with_phase : ℕ → Phase → List Session → List Session
+with_phase number now sessions = changed_first (λ x. x.number == number) (λ x. record x { phase = now }) sessions
+
 abbrev pub with_choice : ℕ → Name → List Session → List Session
-with_choice number pool [] = []
-with_choice number pool (x ∷ xs) = if x.number == number then (record x { pool = Some pool }) ∷ xs else x ∷ with_choice number pool xs
+with_choice number pool sessions = changed_first (λ x. x.number == number) (λ x. record x { pool = Some pool }) sessions
+
+abbrev pub with_cap : ℕ → Option ℕ → List Session → List Session
+with_cap number cap sessions = changed_first (λ x. x.number == number) (λ x. record x { cap_ms = cap }) sessions
 
 -- one more, as far as the count goes
 abbrev pub one_more : ℕ → ℕ
@@ -115,6 +120,13 @@ without_waiter session waiting = without (λ w. w.session == session) waiting
 
 abbrev pub without_runner : ℕ → List Runner → List Runner
 without_runner session running = without (λ r. r.session == session) running
+
+-- the waiting and the running query of this session
+abbrev pub waiter_of : List Waiter → ℕ → Option Waiter
+waiter_of waiting session = find (λ w. w.session == session) waiting
+
+abbrev pub runner_of : List Runner → ℕ → Option Runner
+runner_of running session = find (λ r. r.session == session) running
 
 abbrev pub is_idle : Phase → Bool
 is_idle phase.Idle = true

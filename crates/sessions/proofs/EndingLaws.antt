@@ -16,10 +16,10 @@ use Rattle.rm_rules.specs.declared.state.Phase.{Phase}
 use Rattle.rm_rules.specs.declared.state.Phase.TheVariants as phase
 use Rattle.rm_rules.specs.declared.state.Runner.{Runner}
 use Rattle.rm_rules.specs.declared.state.Session.{Session}
-use Rattle.rm_rules.specs.State.{State, session_called, session_of, with_phase, without_session, is_running}
+use Rattle.rm_rules.specs.State.{State, session_called, session_of, with_phase, without_session, is_running, runner_of}
 use Rattle.rm_rules.specs.Settle.{settled}
 use Rattle.rm_rules.specs.Refusals.{refused_if, unless_refused}
-use Rattle.rm_rules.specs.Change.{Change, quiet, new_session, runner_of, closed, closing, tried}
+use Rattle.rm_rules.specs.Change.{Change, quiet, new_session, closed, closing, tried}
 use Rattle.rm_rules.specs.Answers.{reply_of, answered}
 use Rattle.rm_rules.specs.Step.{entered, has_due, found_at, attempted, step}
 use Rattle.rm_rules.specs.Grants.{Run, run_of, run_by}

@@ -14,11 +14,11 @@ use Rattle.rm_rules.specs.declared.state.Phase.TheVariants as phase
 use Rattle.rm_rules.specs.declared.state.Runner.{Runner}
 use Rattle.rm_rules.specs.declared.state.Session.{Session}
 use Rattle.rm_rules.specs.declared.state.Waiter.{Waiter}
-use Rattle.rm_rules.specs.State.{State, session_called, session_of, is_idle, is_running}
+use Rattle.rm_rules.specs.State.{State, session_called, session_of, is_idle, is_running, runner_of, waiter_of}
 use Rattle.rm_rules.specs.Settle.{settled}
 use Rattle.rm_rules.specs.Refusals.{refused_if, unless_refused}
-use Rattle.rm_rules.specs.Change.{Change, quiet, runner_of, polled, polling, change, tried}
-use Rattle.rm_rules.specs.Answers.{told, told_in_phase, told_running, told_waiting, waiter_of, reply_of}
+use Rattle.rm_rules.specs.Change.{Change, quiet, polled, polling, change, tried}
+use Rattle.rm_rules.specs.Answers.{told, told_in_phase, told_running, told_waiting, reply_of}
 use Rattle.rm_rules.specs.Step.{entered, has_due, found_at, attempted, step}
 use Rattle.rm_rules.specs.Grants.{Run, run_of, run_by}
 use Rattle.rm_rules.specs.Healthy.{AreInPhase, IsHealthy}

@@ -9,8 +9,8 @@ use rm_rules::answer::Answer;
 use rm_rules::state::Phase;
 
 impl Machine {
-    ghost use Rattle.rm_rules.specs.Change.{runner_of};
-    ghost use Rattle.rm_rules.specs.Answers.{waiter_of, told_running, told_waiting, told, reply_of, without_end, answered};
+    ghost use Rattle.rm_rules.specs.State.{runner_of, waiter_of};
+    ghost use Rattle.rm_rules.specs.Answers.{told_running, told_waiting, told, reply_of, without_end, answered};
     ghost use Rattle.rm_rules.specs.Healthy.{AreInPhase, AreNumbered};
 
     fn told_running(&self, session: u32) -> Reply

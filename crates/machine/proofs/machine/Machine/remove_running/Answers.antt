@@ -1,7 +1,6 @@
 use Rattle.std.proofs.Common.{sym, ap, ◌∙◌, List}
 use Rattle.rm_rules.specs.declared.state.Runner.{Runner}
-use Rattle.rm_rules.specs.State.{State}
-use Rattle.rm_rules.specs.Change.{runner_of}
+use Rattle.rm_rules.specs.State.{State, runner_of}
 use Rattle.machine.proofs.Running.{none-leaves}
 use Rattle.machine.proofs.Inside.{bytes-given}
 use Rattle.machine.proofs.machine.Machine.remove_running.Goals as goal

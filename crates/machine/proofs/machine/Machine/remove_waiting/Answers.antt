@@ -1,7 +1,6 @@
 use Rattle.std.proofs.Common.{◌≡◌, sym, ap, ◌∙◌, List, Some}
 use Rattle.rm_rules.specs.declared.state.Waiter.{Waiter}
-use Rattle.rm_rules.specs.State.{State}
-use Rattle.rm_rules.specs.Answers.{waiter_of}
+use Rattle.rm_rules.specs.State.{State, waiter_of}
 use Rattle.pool_queue.specs.Queue.{has_query}
 use Rattle.machine.specs.Inside.{seen_state}
 use Rattle.machine.proofs.Settling.{session-may-leave, session-left, none-left}

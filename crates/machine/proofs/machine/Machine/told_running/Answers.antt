@@ -3,9 +3,8 @@ use Rattle.rm_base.specs.declared.entry.Account.{Account}
 use Rattle.rm_base.specs.declared.reply.Reply.{Reply}
 use Rattle.rm_base.specs.declared.reply.Reply.TheVariants as reply
 use Rattle.rm_rules.specs.declared.state.Runner.{Runner}
-use Rattle.rm_rules.specs.State.{State}
+use Rattle.rm_rules.specs.State.{State, runner_of}
 use Rattle.rm_rules.specs.Holdings.{Holdings}
-use Rattle.rm_rules.specs.Change.{runner_of}
 use Rattle.rm_rules.specs.Answers.{told_running}
 use Rattle.accounts.specs.Accounts.{account_of}
 use Rattle.machine.proofs.Inside.{bytes_inside}

@@ -3,8 +3,8 @@ use Rattle.std.specs.Option.{unwrap_or}
 use Rattle.rm_base.specs.declared.reply.Reply.{Reply}
 use Rattle.rm_base.specs.declared.reply.Reply.TheVariants as reply
 use Rattle.rm_rules.specs.declared.state.Waiter.{Waiter}
-use Rattle.rm_rules.specs.State.{State}
-use Rattle.rm_rules.specs.Answers.{waiter_of, told_waiting}
+use Rattle.rm_rules.specs.State.{State, waiter_of}
+use Rattle.rm_rules.specs.Answers.{told_waiting}
 use Rattle.pool_queue.specs.Queue.{place_of_query}
 use Rattle.machine.proofs.Settling.{place-waiting}
 use Rattle.machine.proofs.machine.Machine.told_waiting.Goals as goal
