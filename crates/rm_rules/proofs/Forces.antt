@@ -1,7 +1,7 @@
 -- The memory in force rises only where a statement raises the total.
 use Rattle.std.proofs.Common.{◌≡◌, ℕ, ◌≤◌, ◌||◌, refl, ap, arith, max}
 use Rattle.rm_base.specs.declared.event.Event.{Event}
-use Rattle.rm_base.specs.declared.event.Event.TheVariants.{Define, Open, SetPool, Submit, Poll, Finish, Close}
+use Rattle.rm_base.specs.declared.event.Event.TheVariants.{Define, Open, SetPool, SetCap, Submit, Poll, Check, GiveWay, Finish, Cancel, Close}
 use Rattle.rm_rules.specs.Definitions.{total}
 use Rattle.rm_rules.specs.State.{State}
 use Rattle.rm_rules.specs.Settle.{settled}
@@ -11,7 +11,7 @@ use Rattle.rm_rules.specs.Replay.{IsFormed}
 use Rattle.rm_rules.specs.Healthy.{IsUnsettled, IsHealthy}
 use Rattle.rm_rules.specs.Grants.{RaisesForce}
 use Rattle.rm_rules.proofs.Settling.{due-keeps, rest-settled, rest-due, force-settled}
-use Rattle.rm_rules.proofs.Changing.{IsTried, stays, changes, IsChange, defines, opens, chooses, submits, collects, finishes, closes, tried-is}
+use Rattle.rm_rules.proofs.Changing.{IsTried, stays, changes, IsChange, defines, opens, chooses, caps, submits, collects, moves_on, asks, gives_way, finishes, withdraws, stops, closes, tried-is}
 use Rattle.rm_rules.proofs.Answering.{beside-answered}
 use Rattle.rm_rules.proofs.Stepping.{unsettled-tried, outcome-turn}
 
@@ -19,9 +19,13 @@ force-least : (s t : State) (event : Event) → t.in_force ≤ s.in_force → Ra
 force-least s t (Define statement) least = λ rises. absurd (omega (arith, rises, least))
 force-least s t (Open user) least = least
 force-least s t (SetPool session pool) least = least
+force-least s t (SetCap session cap) least = least
 force-least s t (Submit session floor) least = least
 force-least s t (Poll session) least = least
+force-least s t (Check session) least = least
+force-least s t (GiveWay session) least = least
 force-least s t (Finish session) least = least
+force-least s t (Cancel by target) least = least
 force-least s t (Close session) least = least
 
 -- the definitions are those before the event, but for a statement
@@ -31,9 +35,15 @@ force-changed s t seat _ _ (defines statement new accepts) same force most least
     λ rises. let left = rest-settled (defined t new).state in omega (arith, rises, most, force, least, ap total left.definitions)
 force-changed s t seat _ _ (opens user may) same force most least = omega (arith, most, force, least, ap total same)
 force-changed s t seat _ _ (chooses session pool x found may other) same force most least = omega (arith, most, force, least, ap total same)
+force-changed s t seat _ _ (caps session cap x found room other) same force most least = omega (arith, most, force, least, ap total same)
 force-changed s t seat _ _ (submits session floor x found may) same force most least = omega (arith, most, force, least, ap total same)
 force-changed s t seat _ _ (collects session x end found ended) same force most least = omega (arith, most, force, least, ap total same)
+force-changed s t seat _ _ (moves_on session x r pool is taken) same force most least = omega (arith, most, force, least, ap total same)
+force-changed s t seat _ _ (asks session x r pool is) same force most least = omega (arith, most, force, least, ap total same)
+force-changed s t seat _ _ (gives_way session x r pool found runs leaves) same force most least = omega (arith, most, force, least, ap total same)
 force-changed s t seat _ _ (finishes session x found runs) same force most least = omega (arith, most, force, least, ap total same)
+force-changed s t seat _ _ (withdraws by target x y w may waits) same force most least = omega (arith, most, force, least, ap total same)
+force-changed s t seat _ _ (stops by target x y r may runs first) same force most least = omega (arith, most, force, least, ap total same)
 force-changed s t seat _ _ (closes session x found rests) same force most least = omega (arith, most, force, least, ap total same)
 
 pub force-found : (s : State) (at : ℕ) → (found_at s at).in_force ≡ s.in_force
@@ -53,9 +63,13 @@ force-like : (s t u : State) (event : Event) → u.in_force ≡ t.in_force → u
 force-like s t u (Define statement) same defs h = λ rises. let more = h (omega (arith, rises, same)) in omega (arith, more, ap total defs)
 force-like s t u (Open user) same defs h = omega (arith, same, h)
 force-like s t u (SetPool session pool) same defs h = omega (arith, same, h)
+force-like s t u (SetCap session cap) same defs h = omega (arith, same, h)
 force-like s t u (Submit session floor) same defs h = omega (arith, same, h)
 force-like s t u (Poll session) same defs h = omega (arith, same, h)
+force-like s t u (Check session) same defs h = omega (arith, same, h)
+force-like s t u (GiveWay session) same defs h = omega (arith, same, h)
 force-like s t u (Finish session) same defs h = omega (arith, same, h)
+force-like s t u (Cancel by target) same defs h = omega (arith, same, h)
 force-like s t u (Close session) same defs h = omega (arith, same, h)
 
 pub force-step : (s : State) (seat at : ℕ) (event : Event) → IsHealthy s → IsFormed event → RaisesForce s (step s seat at event).state event

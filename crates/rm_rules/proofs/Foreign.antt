@@ -3,30 +3,34 @@ use Rattle.std.proofs.Common.{◌≡◌, ℕ, Bool, true, false, ◌||◌, cond,
 use Rattle.std.specs.Prelude.{option_map}
 use Rattle.std.proofs.lemmas.Bool.{eqb-true, false≢true}
 use Rattle.rm_base.specs.declared.event.Event.{Event}
+use Rattle.rm_base.specs.declared.event.Event.TheVariants.{GiveWay}
 use Rattle.rm_base.specs.declared.reply.End.{End}
+use Rattle.rm_base.specs.declared.reply.End.TheVariants.{Cancelled}
 use Rattle.rm_rules.specs.declared.answer.Answer.{Answer}
 use Rattle.rm_rules.specs.declared.state.Phase.{Phase}
 use Rattle.rm_rules.specs.declared.state.Phase.TheVariants as phase
 use Rattle.rm_rules.specs.declared.state.Session.{Session}
 use Rattle.rm_rules.specs.declared.state.Waiter.{Waiter}
-use Rattle.rm_rules.specs.State.{State, session_called, session_of, phase_of, with_phase, is_idle, is_waiting, is_ended}
+use Rattle.rm_rules.specs.declared.state.Runner.{Runner}
+use Rattle.rm_rules.specs.State.{State, session_called, session_of, runner_of, phase_of, with_phase, is_idle, is_waiting, is_ended}
 use Rattle.rm_rules.specs.Admission.{admitted, first_entitled}
 use Rattle.rm_rules.specs.Deadlines.{ended_as}
 use Rattle.rm_rules.specs.Settle.{settled}
-use Rattle.rm_rules.specs.Change.{Change}
+use Rattle.rm_rules.specs.Change.{Change, within_moments}
 use Rattle.rm_rules.specs.Answers.{answered}
 use Rattle.rm_rules.specs.Step.{moved_to, has_due, found_at, attempted, step}
 use Rattle.rm_rules.specs.Replay.{IsFormed}
 use Rattle.rm_rules.specs.Sessions.{session_in, IsForeign, Settles, Stays, Runs, Ends, IsLeft, LeavesForeign}
 use Rattle.rm_rules.specs.Healthy.{AreInPhase, IsHealthy}
+use Rattle.rm_rules.proofs.Taken.{found_passes}
 use Rattle.rm_rules.proofs.Found.{find-without}
 use Rattle.rm_rules.proofs.Changed.{other-changed}
-use Rattle.rm_rules.proofs.Phases.{has_number, phased, choosing_pool, differ, called-with_same, called-with_other, phase_of-found}
-use Rattle.rm_rules.proofs.Queue.{IsAmong}
+use Rattle.rm_rules.proofs.Phases.{has_number, phased, choosing_pool, capped, differ, called-with_same, called-with_other, phase_of-found}
+use Rattle.rm_rules.proofs.Queue.{IsAmong, found_among}
 use Rattle.rm_rules.proofs.Admitting.{session-waits, in_phase-admitted}
 use Rattle.rm_rules.proofs.Ending.{in_phase-ended}
 use Rattle.rm_rules.proofs.Settling.{entitled-among, due-keeps, settled-keeps}
-use Rattle.rm_rules.proofs.Changing.{IsTried, stays, changes, IsQuiet, refuses, repeats, tells, IsChange, defines, opens, chooses, submits, collects, finishes, closes, session_of-is, tried-is}
+use Rattle.rm_rules.proofs.Changing.{IsTried, stays, changes, IsQuiet, refuses, repeats, caps_again, judges, stops_again, tells, IsChange, defines, opens, chooses, caps, submits, collects, moves_on, asks, gives_way, finishes, withdraws, stops, closes, session_of-is, tried-is}
 use Rattle.rm_rules.proofs.Stepping.{unsettled-tried, outcome-turn}
 
 pub settles-then : (p q r : Phase) → Settles p q → Settles q r → Settles p r
@@ -149,11 +153,17 @@ abbrev apart : State → ℕ → Event → ℕ → Session → Type 0
 apart s seat event n x =
     (session : ℕ) (z : Session) → session_in event ≡ Some session → session_of s seat session ≡ Some z → eqb z.number n ≡ false
 
-left-changed : (s : State) (seat : ℕ) (event : Event) (c : Change) (n : ℕ) (x : Session) → IsChange s seat event c → apart s seat event n x → IsLeftAt n x s.sessions
-    → IsLeftAt n x c.state.sessions
-left-changed s seat _ _ n x (defines statement new accepts) other h = h
-left-changed s seat _ _ n x (opens user may) other h = record { session = h.session; called = push-turn n h.session _ s.sessions h.called; left = h.left }
-left-changed s seat _ _ n x (chooses session pool z found may differs) other h = record {
+-- a running query of another session
+runner-apart : (s : State) (seat : ℕ) (event : Event) (n session : ℕ) (x z : Session) (r : Runner) → apart s seat event n x → session_in event ≡ Some session
+    → session_of s seat session ≡ Some z → runner_of s.running z.number ≡ Some r → eqb r.session n ≡ false
+runner-apart s seat event n session x z r other for found runs =
+    differ r.session z.number n (other session z for found) (found_passes (λ (y : Runner). eqb y.session z.number) r s.running runs)
+
+left-changed : (s : State) (seat : ℕ) (event : Event) (c : Change) (n : ℕ) (x : Session) → IsChange s seat event c → AreInPhase s.sessions s.waiting s.running
+    → apart s seat event n x → IsLeftAt n x s.sessions → IsLeftAt n x c.state.sessions
+left-changed s seat _ _ n x (defines statement new accepts) in_phase other h = h
+left-changed s seat _ _ n x (opens user may) in_phase other h = record { session = h.session; called = push-turn n h.session _ s.sessions h.called; left = h.left }
+left-changed s seat _ _ n x (chooses session pool z found may differs) in_phase other h = record {
   session = h.session;
   called =
       other-changed (has_number z.number) (has_number n) (choosing_pool pool) s.sessions
@@ -161,13 +171,30 @@ left-changed s seat _ _ n x (chooses session pool z found may differs) other h =
       ∙ h.called;
   left = h.left;
 }
-left-changed s seat _ _ n x (submits session floor z found may) other h =
+left-changed s seat _ _ n x (caps session cap z found room differs) in_phase other h = record {
+  session = h.session;
+  called =
+      other-changed (has_number z.number) (has_number n) (capped (within_moments cap)) s.sessions
+      (λ y is. differ y.number z.number n (other session z refl found) is) (λ y. refl)
+      ∙ h.called;
+  left = h.left;
+}
+left-changed s seat _ _ n x (submits session floor z found may) in_phase other h =
     left-with n z.number phase.Waiting x s.sessions h (λ same. absurd (false≢true (sym (other session z refl found) ∙ same)))
-left-changed s seat _ _ n x (collects session z end found ended) other h =
+left-changed s seat _ _ n x (collects session z end found ended) in_phase other h =
     left-with n z.number phase.Idle x s.sessions h (λ same. absurd (false≢true (sym (other session z refl found) ∙ same)))
-left-changed s seat _ _ n x (finishes session z found runs) other h =
+left-changed s seat _ _ n x (moves_on session z r pool is taken) in_phase other h = h
+left-changed s seat _ _ n x (asks session z r pool is) in_phase other h = h
+left-changed s seat _ _ n x (gives_way session z r pool found runs leaves) in_phase other h =
+    left-with n r.session phase.Waiting x s.sessions h
+    (λ same. absurd (false≢true (sym (runner-apart s seat (GiveWay session) n session x z r other refl found runs) ∙ same)))
+left-changed s seat _ _ n x (finishes session z found runs) in_phase other h =
     left-with n z.number phase.Idle x s.sessions h (λ same. absurd (false≢true (sym (other session z refl found) ∙ same)))
-left-changed s seat _ _ n x (closes session z found rests) other h = record {
+left-changed s seat _ _ n x (withdraws by target z y w may waits) in_phase other h =
+    let among = found_among (λ v. eqb v.session y.number) w s.waiting waits in
+    left-with n w.session (phase.Ended Cancelled) x s.sessions h (λ same. waits-ends Cancelled _ (waits-at n s w in_phase among same))
+left-changed s seat _ _ n x (stops by target z y r may runs first) in_phase other h = h
+left-changed s seat _ _ n x (closes session z found rests) in_phase other h = record {
   session = h.session;
   called = find-without (has_number z.number) (has_number n) s.sessions (λ y is. differ y.number z.number n (other session z refl found) is) ∙ h.called;
   left = h.left;
@@ -182,6 +209,9 @@ quiet-answered : (s t : State) (seat : ℕ) (event : Event) (answer : Answer) (n
     → IsLeftAt n x (answered t answer).sessions
 quiet-answered s t seat _ _ n x (refuses event r is) h = h
 quiet-answered s t seat _ _ n x (repeats session pool z found same) h = h
+quiet-answered s t seat _ _ n x (caps_again session cap z found same) h = h
+quiet-answered s t seat _ _ n x (judges session z r answer is says) h = h
+quiet-answered s t seat _ _ n x (stops_again by target z y r may runs already) h = h
 quiet-answered s t seat _ _ n x (tells session z found active) h = h
 
 change-answered : (s t : State) (seat : ℕ) (event : Event) (c : Change) (n : ℕ) (x : Session) → IsChange s seat event c → apart s seat event n x → IsLeftAt n x t.sessions
@@ -189,18 +219,25 @@ change-answered : (s t : State) (seat : ℕ) (event : Event) (c : Change) (n : �
 change-answered s t seat _ _ n x (defines statement new accepts) other h = h
 change-answered s t seat _ _ n x (opens user may) other h = h
 change-answered s t seat _ _ n x (chooses session pool z found may differs) other h = h
+change-answered s t seat _ _ n x (caps session cap z found room differs) other h = h
 change-answered s t seat _ _ n x (submits session floor z found may) other h = answer-turn n z.number x t (is_ended (phase_of t.sessions z.number)) (other session z refl found) h
 change-answered s t seat _ _ n x (collects session z end found ended) other h = h
+change-answered s t seat _ _ n x (moves_on session z r pool is taken) other h = h
+change-answered s t seat _ _ n x (asks session z r pool is) other h = h
+change-answered s t seat _ _ n x (gives_way session z r pool found runs leaves) other h =
+    answer-turn n r.session x t (is_ended (phase_of t.sessions r.session)) (runner-apart s seat (GiveWay session) n session x z r other refl found runs) h
 change-answered s t seat _ _ n x (finishes session z found runs) other h = h
+change-answered s t seat _ _ n x (withdraws by target z y w may waits) other h = h
+change-answered s t seat _ _ n x (stops by target z y r may runs first) other h = h
 change-answered s t seat _ _ n x (closes session z found rests) other h = h
 
 -- what is tried leaves the session, and so does its settling and its answer
 tried-left : (s : State) (seat : ℕ) (event : Event) (c : Change) (n : ℕ) (x : Session) → IsTried s seat event c → AreInPhase c.state.sessions c.state.waiting c.state.running
-    → apart s seat event n x → IsLeftAt n x s.sessions → IsLeftAt n x (answered (settled c.state) c.answer).sessions
+    → apart s seat event n x → IsLeftIn n x s → IsLeftAt n x (answered (settled c.state) c.answer).sessions
 tried-left s seat event _ n x (stays answer still) in_phase other h =
-    quiet-answered s (settled s) seat event answer n x still (left-settled n x s in_phase h).left
+    quiet-answered s (settled s) seat event answer n x still (left-settled n x s in_phase h.left).left
 tried-left s seat event _ n x (changes c is loud) in_phase other h =
-    change-answered s (settled c.state) seat event c n x is other (left-settled n x c.state in_phase (left-changed s seat event c n x is other h)).left
+    change-answered s (settled c.state) seat event c n x is other (left-settled n x c.state in_phase (left-changed s seat event c n x is h.in_phase other h.left)).left
 
 pub foreign-step : (s : State) (seat at : ℕ) (event : Event) → IsHealthy s → IsFormed event → LeavesForeign seat event s (step s seat at event).state
 foreign-step s seat at event h formed x called foreign =
@@ -208,12 +245,13 @@ foreign-step s seat at event h formed x called foreign =
     let c = attempted t seat event in
     let is = tried-is t seat event in
     let n = x.number in
-    let found = (left-found n x s at h.in_phase called).left in
+    let before = left-found n x s at h.in_phase called in
+    let found = before.left in
     let other : apart t seat event n x = λ session z for of.
     number-turn t seat session n event x found.session z for foreign refl found.left.seat found.called of (eqb z.number n) refl in
     outcome-turn (λ o. (y : Session) × (session_called o.state.sessions n ≡ Some y) × IsLeft x y) s seat event c (has_due s at || c.changed)
     (λ settles.
-    let left = tried-left t seat event c n x is (unsettled-tried s seat at event c is formed h settles).in_phase other found in
+    let left = tried-left t seat event c n x is (unsettled-tried s seat at event c is formed h settles).in_phase other before in
     (left.session, left.called, left.left)
     )
     (λ still. let left = left-self n x s.sessions called in (left.session, left.called, left.left))

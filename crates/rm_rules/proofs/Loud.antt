@@ -1,10 +1,10 @@
 -- An event that makes an entry has changed more than the clock.
-use Rattle.std.proofs.Common.{◌≡◌, ℕ, zero, suc, ◌+◌, ◌≤◌, ◌<◌, Bool, true, false, ◌||◌, cond, eqb, ltb, List, ◌∷◌, length, Some, None, Option, refl, sym, ap, ◌∙◌, subst, arith, count_by}
-use Rattle.std.specs.Prelude.{option_map}
+use Rattle.std.proofs.Common.{◌≡◌, ℕ, zero, suc, ◌+◌, ◌≤◌, ◌<◌, Bool, true, false, ◌||◌, cond, eqb, ltb, List, ◌∷◌, length, Some, None, Option, refl, sym, ap, ◌∙◌, subst, arith, sum_by, count_by}
+use Rattle.std.specs.Prelude.{option_map, is_none}
 use Rattle.std.specs.Option.{is_some}
 use Rattle.std.proofs.lemmas.List.{length-append}
 use Rattle.std.proofs.lemmas.List.Sums.{sum_by_push}
-use Rattle.std.proofs.lemmas.Bool.{eq-eqb, false≢true}
+use Rattle.std.proofs.lemmas.Bool.{eq-eqb, eqb-true, false≢true}
 use Rattle.std.proofs.lemmas.Bool.Decides.{nat_tests}
 use Rattle.rm_base.specs.declared.definitions.Definitions.{Definitions}
 use Rattle.rm_base.specs.declared.event.Event.{Event}
@@ -16,24 +16,27 @@ use Rattle.rm_rules.specs.declared.state.Phase.{Phase}
 use Rattle.rm_rules.specs.declared.state.Phase.TheVariants as phase
 use Rattle.rm_rules.specs.declared.state.Session.{Session}
 use Rattle.rm_rules.specs.declared.state.Waiter.{Waiter}
-use Rattle.rm_rules.specs.State.{State, session_called, session_pool, with_phase, without_waiter, is_idle}
+use Rattle.rm_rules.specs.declared.state.Runner.{Runner}
+use Rattle.rm_rules.specs.State.{State, session_called, session_pool, waiter_of, runner_of, with_phase, without_waiter, without_runner, is_idle}
 use Rattle.rm_rules.specs.Repeated.{repeated}
+use Rattle.rm_rules.specs.Admission.{started}
+use Rattle.rm_rules.specs.Moving.{moved, leaving_for, requeued, stopping, moved_on, asked_to_leave, gave_way, asked_to_stop}
 use Rattle.rm_rules.specs.Deadlines.{first_due, timed_out, without_due}
 use Rattle.rm_rules.specs.Settle.{settled}
-use Rattle.rm_rules.specs.Change.{Change, new_waiter, defined, opened, has_chosen, submitted, collected, finished, closed}
+use Rattle.rm_rules.specs.Change.{Change, new_waiter, defined, opened, has_chosen, has_cap, within_moments, submitted, collected, finished, withdrawn, closed}
 use Rattle.rm_rules.specs.Answers.{answered}
 use Rattle.rm_rules.specs.Step.{entered, moved_to, has_due, found_at, attempted, step, IsSameButClock}
 use Rattle.rm_rules.specs.Replay.{IsFormed}
 use Rattle.rm_rules.specs.Sessions.{Settles, Stays, Runs, Ends}
 use Rattle.rm_rules.specs.Healthy.{AreInPhase, AreNumbered, IsHealthy}
-use Rattle.rm_rules.proofs.Taken.{sum_without, length_without, count_without, counted_among}
+use Rattle.rm_rules.proofs.Taken.{found_passes, sum_without, length_without, count_without, counted_among}
 use Rattle.rm_rules.proofs.AcceptanceLaws.{accepted-counted}
-use Rattle.rm_rules.proofs.Changed.{found-changed}
-use Rattle.rm_rules.proofs.Phases.{has_number, phased, choosing_pool, called-with_same, length-with}
+use Rattle.rm_rules.proofs.Changed.{sum-changed, found-changed}
+use Rattle.rm_rules.proofs.Phases.{has_number, phased, choosing_pool, capped, called-with_same, length-with}
 use Rattle.rm_rules.proofs.Queue.{IsAmong}
 use Rattle.rm_rules.proofs.Admitting.{waiter_found}
-use Rattle.rm_rules.proofs.Settling.{repeated-keeps, due-among, settled-keeps, rest-settled, rest-due}
-use Rattle.rm_rules.proofs.Changing.{IsTried, stays, changes, IsChange, defines, opens, chooses, submits, collects, finishes, closes, choice_made, session_of-found, tried-is, rest-changed}
+use Rattle.rm_rules.proofs.Settling.{repeated-keeps, due-among, due-keeps, settled-keeps, rest-settled, rest-due}
+use Rattle.rm_rules.proofs.Changing.{IsTried, stays, changes, IsChange, defines, opens, chooses, caps, submits, collects, moves_on, asks, gives_way, finishes, withdraws, stops, closes, choice_made, cap_made, session_of-found, tried-is, rest-changed}
 use Rattle.rm_rules.proofs.Keeping.{unsettled-changed, running-just}
 use Rattle.rm_rules.proofs.Answering.{beside-answered}
 use Rattle.rm_rules.proofs.Stepping.{moved-facts, none-found, outcome-turn}
@@ -55,7 +58,7 @@ length-settled s =
     settled-keeps (λ t. length t.sessions ≡ length s.sessions) (λ t w end among p. length-with w.session (phase.Ended end) t.sessions ∙ p) (λ t p. p)
     (λ t w e p. length-with w.session phase.Running t.sessions ∙ p) s refl
 
--- a session that has another phase or another choice then
+-- a session that has another phase, another choice or another cap then
 session-differs : (s t : State) (n clock : ℕ) (x y : Session) → session_called s.sessions n ≡ Some x → session_called t.sessions n ≡ Some y → t ≡ at_clock clock s → y ≡ x
 session-differs s t n clock x y found then same =
     let both : Some y ≡ Some x = sym then ∙ ap (λ (u : State). session_called u.sessions n) same ∙ found in
@@ -71,10 +74,43 @@ idle-differs s c n clock x y in_phase found live then idle same =
 chosen-already : (x : Session) (pool : Name) → x.pool ≡ Some pool → has_chosen x pool ≡ true
 chosen-already x pool is = ap (λ (o : Option Name). elim o [ Some p ↦ same_name p pool | None ↦ false ]) is ∙ same_name-refl pool
 
+capped-already : (x : Session) (cap : Option ℕ) → x.cap_ms ≡ cap → has_cap x cap ≡ true
+capped-already x None is = ap is_none is
+capped-already x (Some cap) is = ap (λ (o : Option ℕ). elim o [ Some own ↦ eqb own cap | None ↦ false ]) is ∙ eq-eqb cap cap refl
+
 -- the sessions of which one goes over to idle
 idle-then : (s : State) (x : Session) → session_called s.sessions x.number ≡ Some x
     → session_called (with_phase x.number phase.Idle s.sessions) x.number ≡ Some (phased phase.Idle x)
 idle-then s x found = called-with_same x.number phase.Idle s.sessions ∙ ap (option_map (phased phase.Idle)) found
+
+-- how often a query of this number waits, which settling makes no greater
+abbrev waiting_count : ℕ → State → ℕ
+waiting_count n s = count_by (λ (w : Waiter). eqb w.query n) s.waiting
+
+fewer-settled : (n : ℕ) (s : State) → waiting_count n (settled s) ≤ waiting_count n s
+fewer-settled n s =
+    settled-keeps (λ t. waiting_count n t ≤ waiting_count n s)
+    (λ t w end among p. omega (arith, p, count_without (λ (x : Waiter). eqb x.query n) (λ x. eqb x.session w.session) t.waiting)) (λ t p. p)
+    (λ t w e p. omega (arith, p, count_without (λ (x : Waiter). eqb x.query n) (λ x. eqb x.session w.session) t.waiting)) s (omega arith)
+
+-- settling takes no query from those that run
+more-settled : (f : Runner → ℕ) (s : State) → sum_by f s.running ≤ sum_by f (settled s).running
+more-settled f s =
+    settled-keeps (λ t. sum_by f s.running ≤ sum_by f t.running) (λ t w end among p. p) (λ t p. p)
+    (λ t w e p. omega (arith, p, sum_by_push f t.running (started t w))) s (omega arith)
+
+-- how many are to give way, as no query is that begins to run
+abbrev leaving_count : State → ℕ
+leaving_count s = count_by (λ (r : Runner). is_some r.leaving) s.running
+
+none_leaves-settled : (s : State) → leaving_count (settled s) ≤ leaving_count s
+none_leaves-settled s =
+    settled-keeps (λ t. leaving_count t ≤ leaving_count s) (λ t w end among p. p) (λ t p. p)
+    (λ t w e p. omega (arith, p, sum_by_push (λ (r : Runner). cond (is_some r.leaving) 1 0) t.running (started t w))) s (omega arith)
+
+-- a running query is found by its own session
+runner-own : (s : State) (n : ℕ) (r : Runner) → runner_of s.running n ≡ Some r → runner_of s.running r.session ≡ Some r
+runner-own s n r found = ap (runner_of s.running) (eqb-true r.session n (found_passes (λ (y : Runner). eqb y.session n) r s.running found)) ∙ found
 
 -- what an event that says so changes is more than the clock, also once its answer is given
 loud-change : (s : State) (seat clock : ℕ) (event : Event) (c : Change) → IsFormed event → IsChange s seat event c → AreInPhase c.state.sessions c.state.waiting c.state.running
@@ -94,14 +130,68 @@ loud-change s seat clock _ _ formed (chooses session pool x found may other) in_
     let left = (left-settled x.number (choosing_pool pool x) c in_phase (left-self x.number (choosing_pool pool x) c.sessions now)).left in
     let is = session-differs s (settled c) x.number clock x left.session there left.called same in
     false≢true (sym other ∙ chosen-already x pool (ap (λ (z : Session). z.pool) (sym is) ∙ left.left.pool))
+loud-change s seat clock _ _ formed (caps session cap x found room other) in_phase same =
+    let own = within_moments cap in
+    let c = (cap_made s x own).state in
+    let there = session_of-found s seat session x found in
+    let now : session_called c.sessions x.number ≡ Some (capped own x) = found-changed (has_number x.number) (capped own) s.sessions (λ y. refl) ∙ ap (option_map (capped own)) there in
+    let left = (left-settled x.number (capped own x) c in_phase (left-self x.number (capped own x) c.sessions now)).left in
+    let is = session-differs s (settled c) x.number clock x left.session there left.called same in
+    false≢true (sym other ∙ capped-already x own (ap (λ (z : Session). z.cap_ms) (sym is) ∙ left.left.cap_ms))
 loud-change s seat clock _ _ formed (submits session floor x found may) in_phase same =
     omega (arith, ap (λ (u : State). u.last_query) (sym same), (rest-settled (submitted s x (session_pool s.definitions x) floor).state).last_query)
 loud-change s seat clock _ _ formed (collects session x end found ended) in_phase same =
     let there = session_of-found s seat session x found in
     idle-differs s (collected s x end).state x.number clock x (phased phase.Idle x) in_phase there (ap is_idle ended) (idle-then s x there) refl same
+loud-change s seat clock _ _ formed (moves_on session x r pool is taken) in_phase same =
+    let moves = λ (y : Runner). y.moves in
+    omega (
+      arith,
+      ap {B = ℕ} (λ (u : State). sum_by moves u.running) same,
+      more-settled moves (moved_on s r pool),
+      sum_without moves (λ y. eqb y.session r.session) r s.running (runner-own s x.number r is.runs),
+      sum_by_push moves (without_runner r.session s.running) (moved s.clock pool r),
+    )
+loud-change s seat clock _ _ formed (asks session x r pool is) in_phase same =
+    let moves = λ (y : Runner). y.moves in
+    omega (
+      arith,
+      ap {B = ℕ} (λ (u : State). sum_by moves u.running) same,
+      more-settled moves (asked_to_leave s r pool),
+      sum-changed moves (λ y. eqb y.session r.session) (leaving_for pool) r s.running (runner-own s x.number r is.runs),
+    )
+loud-change s seat clock _ _ formed (gives_way session x r pool found runs leaves) in_phase same =
+    let leaving = λ (y : Runner). cond {A = ℕ} (is_some y.leaving) 1 0 in
+    omega (
+      arith,
+      ap {B = ℕ} (λ (u : State). leaving_count u) same,
+      none_leaves-settled (gave_way s r pool),
+      sum_without leaving (λ y. eqb y.session r.session) r s.running (runner-own s x.number r runs),
+      ap {B = ℕ} (λ (o : Option Name). cond (is_some o) 1 0) leaves,
+    )
 loud-change s seat clock _ _ formed (finishes session x found runs) in_phase same =
     let there = session_of-found s seat session x found in
     idle-differs s (finished s x).state x.number clock x (phased phase.Idle x) in_phase there (running-just x.phase runs).idle (idle-then s x there) refl same
+loud-change s seat clock _ _ formed (withdraws by target x y w may waits) in_phase same =
+    let number = λ (v : Waiter). cond {A = ℕ} (eqb v.query w.query) 1 0 in
+    let own : waiter_of s.waiting w.session ≡ Some w =
+    ap (waiter_of s.waiting) (eqb-true w.session y.number (found_passes (λ (v : Waiter). eqb v.session y.number) w s.waiting waits)) ∙ waits in
+    omega (
+      arith,
+      ap {B = ℕ} (λ (u : State). waiting_count w.query u) same,
+      fewer-settled w.query (withdrawn s w).state,
+      sum_without number (λ v. eqb v.session w.session) w s.waiting own,
+      ap {B = ℕ} (λ b. cond b 1 0) (eq-eqb w.query w.query refl),
+    )
+loud-change s seat clock _ _ formed (stops by target x y r may runs first) in_phase same =
+    let stopped = λ (v : Runner). cond {A = ℕ} v.cancelled 1 0 in
+    omega (
+      arith,
+      ap {B = ℕ} (λ (u : State). sum_by stopped u.running) same,
+      more-settled stopped (asked_to_stop s r),
+      sum-changed stopped (λ v. eqb v.session r.session) stopping r s.running (runner-own s y.number r runs),
+      ap {B = ℕ} (λ b. cond b 1 0) first,
+    )
 loud-change s seat clock _ _ formed (closes session x found rests) in_phase same =
     omega (
       arith,
@@ -120,16 +210,13 @@ given-waits s n h waits = turn (ltb s.last_query n) refl where
   turn true e = let above : s.last_query < n = grind (arith, nat_tests) in absurd (omega (arith, waits, h.given n above))
   turn false e = grind (arith, nat_tests)
 
--- a query that ends at its deadline waits no more
-abbrev waiting_count : ℕ → State → ℕ
-waiting_count n s = count_by (λ (w : Waiter). eqb w.query n) s.waiting
+-- how often a query of this number runs
+abbrev runs_count : ℕ → State → ℕ
+runs_count n s = count_by (λ (r : Runner). eqb r.query n) s.running
 
+-- a query that ends at its deadline waits no more
 gone-without : (n : ℕ) (s : State) (w : Waiter) → waiting_count n s ≡ 0 → count_by (λ (x : Waiter). eqb x.query n) (without_waiter w.session s.waiting) ≡ 0
 gone-without n s w none = omega (arith, none, count_without (λ (x : Waiter). eqb x.query n) (λ x. eqb x.session w.session) s.waiting)
-
-gone-settled : (n : ℕ) (s : State) → waiting_count n s ≡ 0 → waiting_count n (settled s) ≡ 0
-gone-settled n s none =
-    settled-keeps (λ t. waiting_count n t ≡ 0) (λ t w end among p. gone-without n t w p) (λ t p. p) (λ t w e p. gone-without n t w p) s none
 
 gone-ended : (s : State) (w : Waiter) → IsAmong w s.waiting → AreInPhase s.sessions s.waiting s.running → AreNumbered s.last_query s.waiting s.running
     → count_by (λ (x : Waiter). eqb x.query w.query) (without_waiter w.session s.waiting) ≡ 0
@@ -154,21 +241,35 @@ gone-due : (s : State) (w : Waiter) → first_due s ≡ Some w → AreInPhase s.
 gone-due s w found h numbered = due-turn s w (length s.waiting) found (due-among s w found) refl h numbered
 
 -- and no change lets it wait again
-gone-changed : (s : State) (seat : ℕ) (event : Event) (c : Change) (n : ℕ) → IsChange s seat event c → n ≤ s.last_query → waiting_count n s ≡ 0 → waiting_count n c.state ≡ 0
-gone-changed s seat _ _ n (defines statement new accepts) given none = none
-gone-changed s seat _ _ n (opens user may) given none = none
-gone-changed s seat _ _ n (chooses session pool x found may other) given none = none
-gone-changed s seat _ _ n (submits session floor x found may) given none =
+gone-changed : (s : State) (seat : ℕ) (event : Event) (c : Change) (n : ℕ) → IsChange s seat event c → n ≤ s.last_query → runs_count n s ≡ 0 → waiting_count n s ≡ 0
+    → waiting_count n c.state ≡ 0
+gone-changed s seat _ _ n (defines statement new accepts) given ran none = none
+gone-changed s seat _ _ n (opens user may) given ran none = none
+gone-changed s seat _ _ n (chooses session pool x found may other) given ran none = none
+gone-changed s seat _ _ n (caps session cap x found room other) given ran none = none
+gone-changed s seat _ _ n (submits session floor x found may) given ran none =
     let w = new_waiter s x (session_pool s.definitions x) floor in
     let other : eqb w.query n ≡ false = next-differs s.last_query n given in
     omega (arith, none, sum_by_push (λ (z : Waiter). cond (eqb z.query n) 1 0) s.waiting w, ap {B = ℕ} (λ b. cond b 1 0) other)
-gone-changed s seat _ _ n (collects session x end found ended) given none = none
-gone-changed s seat _ _ n (finishes session x found runs) given none = none
-gone-changed s seat _ _ n (closes session x found rests) given none = omega (arith, none, count_without (λ (w : Waiter). eqb w.query n) (λ w. eqb w.session x.number) s.waiting)
+gone-changed s seat _ _ n (collects session x end found ended) given ran none = none
+gone-changed s seat _ _ n (moves_on session x r pool is taken) given ran none = none
+gone-changed s seat _ _ n (asks session x r pool is) given ran none = none
+gone-changed s seat _ _ n (gives_way session x r pool found runs leaves) given ran none =
+    omega (
+      arith,
+      ran,
+      none,
+      sum_by_push (λ (w : Waiter). cond (eqb w.query n) 1 0) s.waiting (requeued s.clock pool r),
+      sum_without (λ (y : Runner). cond (eqb y.query n) 1 0) (λ y. eqb y.session x.number) r s.running runs,
+    )
+gone-changed s seat _ _ n (finishes session x found runs) given ran none = none
+gone-changed s seat _ _ n (withdraws by target x y w may waits) given ran none = omega (arith, none, count_without (λ (v : Waiter). eqb v.query n) (λ v. eqb v.session w.session) s.waiting)
+gone-changed s seat _ _ n (stops by target x y r may runs first) given ran none = none
+gone-changed s seat _ _ n (closes session x found rests) given ran none = omega (arith, none, count_without (λ (w : Waiter). eqb w.query n) (λ w. eqb w.session x.number) s.waiting)
 
-gone-tried : (s : State) (seat : ℕ) (event : Event) (c : Change) (n : ℕ) → IsTried s seat event c → n ≤ s.last_query → waiting_count n s ≡ 0 → waiting_count n c.state ≡ 0
-gone-tried s seat event _ n (stays answer still) given none = none
-gone-tried s seat event _ n (changes c is loud) given none = gone-changed s seat event c n is given none
+gone-tried : (s : State) (seat : ℕ) (event : Event) (c : Change) (n : ℕ) → IsTried s seat event c → n ≤ s.last_query → runs_count n s ≡ 0 → waiting_count n s ≡ 0 → waiting_count n c.state ≡ 0
+gone-tried s seat event _ n (stays answer still) given ran none = none
+gone-tried s seat event _ n (changes c is loud) given ran none = gone-changed s seat event c n is given ran none
 
 gone-answered : (n : ℕ) (s : State) (answer : Answer) → waiting_count n s ≡ 0 → waiting_count n (answered s answer) ≡ 0
 gone-answered n s answer none = ap (λ (t : State). waiting_count n t) (beside-answered s answer).beside ∙ none
@@ -182,8 +283,10 @@ loud-due s t w seat event c among numbered in_phase found is left same =
     subst (λ (l : List Waiter). 1 ≤ count_by (λ x. eqb x.query w.query) l) (sym among.split)
     (counted_among (λ x. eqb x.query w.query) among.front among.rest w (eq-eqb w.query w.query refl)) in
     let given : w.query ≤ s.last_query = given-waits s w.query numbered waits in
-    let tried = gone-tried (without_due s) seat event c w.query is (omega (arith, given, (rest-due s).last_query)) (gone-due s w found in_phase numbered) in
-    let after = gone-answered w.query (settled c.state) c.answer (gone-settled w.query c.state tried) in
+    let ran : runs_count w.query (without_due s) ≡ 0 =
+    due-keeps (λ t. runs_count w.query t ≡ 0) (λ t v end here p. p) s (omega (arith, waits, numbered.once w.query)) in
+    let tried = gone-tried (without_due s) seat event c w.query is (omega (arith, given, (rest-due s).last_query)) ran (gone-due s w found in_phase numbered) in
+    let after = gone-answered w.query (settled c.state) c.answer (omega (arith, tried, fewer-settled w.query c.state)) in
     omega (arith, waits, after, ap (λ (l : List Waiter). count_by (λ x. eqb x.query w.query) l) (same ∙ left))
 
 -- an event that says that it changes something, where no deadline has acted

@@ -14,7 +14,7 @@ use Rattle.rm_rules.proofs.Taken.{sum_without, length_without, count_without, al
 use Rattle.rm_rules.proofs.Found.{find-without, none-left}
 use Rattle.rm_rules.proofs.Changed.{sum-changed, sum-kept, length-changed, all-changed, found-changed, other-changed}
 
--- the session of this number, and that session in another phase or with another choice
+-- the session of this number, and that session in another phase, with another choice or with another cap
 abbrev pub has_number : ℕ → Session → Bool
 has_number n x = eqb x.number n
 
@@ -23,6 +23,9 @@ phased p x = record x { phase = p }
 
 abbrev pub choosing_pool : Name → Session → Session
 choosing_pool pool x = record x { pool = Some pool }
+
+abbrev pub capped : Option ℕ → Session → Session
+capped cap x = record x { cap_ms = cap }
 
 pub one_if-most : (b : Bool) → one_if b ≤ 1
 one_if-most true = omega arith

@@ -1,7 +1,7 @@
 -- What a refused event leaves.
 use Rattle.std.proofs.Common.{◌≡◌, ℕ, ◌≤◌, true, false, ◌||◌, cond, eqb, Some, None, Option, Err, refl, sym, ap, ◌∙◌, subst, arith, max, count_by}
 use Rattle.std.specs.Prelude.{option_map}
-use Rattle.std.proofs.lemmas.Bool.{false≢true}
+use Rattle.std.proofs.lemmas.Bool.{eqb-true, false≢true}
 use Rattle.rm_base.specs.declared.event.Event.{Event}
 use Rattle.rm_base.specs.declared.refusal.Refusal.{Refusal}
 use Rattle.rm_base.specs.declared.refusal.Refusal.TheVariants as refusal
@@ -21,10 +21,11 @@ use Rattle.rm_rules.specs.Answers.{told, told_in_phase, told_running, told_waiti
 use Rattle.rm_rules.specs.Step.{Outcome, noted, recorded, entered, quietly, moved_to, has_due, found_at, attempted, step, left_refused}
 use Rattle.rm_rules.specs.Replay.{IsFormed}
 use Rattle.rm_rules.specs.Healthy.{AreInPhase, IsHealthy, one_if}
-use Rattle.rm_rules.proofs.Taken.{found_counted, or_left_false, or_right_false}
+use Rattle.rm_rules.proofs.Taken.{found_passes, found_counted, or_left_false, or_right_false}
 use Rattle.rm_rules.proofs.Phases.{phased, called-with_same, phase_of-found}
 use Rattle.rm_rules.proofs.Settling.{rest-settled, rest-due}
-use Rattle.rm_rules.proofs.Changing.{IsTried, stays, changes, IsQuiet, refuses, repeats, tells, IsChange, defines, opens, chooses, submits, collects, finishes, closes, session_of-found, tried-is}
+use Rattle.rm_rules.proofs.Verdicts.{IsCheckReply, says_go, says_way, says_end, says_stop}
+use Rattle.rm_rules.proofs.Changing.{IsTried, stays, changes, IsQuiet, refuses, repeats, caps_again, judges, stops_again, tells, IsChange, defines, opens, chooses, caps, submits, collects, moves_on, asks, gives_way, finishes, withdraws, stops, closes, session_of-found, tried-is}
 use Rattle.rm_rules.proofs.Foreign.{settles-live, left-self, left-settled}
 use Rattle.rm_rules.proofs.Stepping.{or-false, found-facts, unsettled-tried, outcome-turn}
 
@@ -79,24 +80,47 @@ pub record IsRefused (s : State) (seat : ℕ) (event : Event) (r : Refusal) (c :
 abbrev TellsLive : State → State → Type 0
 TellsLive s u = (x : Session) → session_called s.sessions x.number ≡ Some x → is_idle x.phase ≡ false → IsToldOf (told u x.number)
 
+-- what a check replies is no refusal
+check-told : (answer : Reply) → IsCheckReply answer → IsToldOf answer
+check-told _ says_go = λ r e. cc
+check-told _ (says_way pool) = λ r e. cc
+check-told _ (says_end which ran cap) = λ r e. cc
+check-told _ says_stop = λ r e. cc
+
 refused-quiet : (s u : State) (seat : ℕ) (event : Event) (r : Refusal) (answer : Answer) → IsQuiet s seat event answer → TellsLive s u → reply_of u answer ≡ reply.Refused r
     → IsRefused s seat event r (quiet s answer)
 refused-quiet s u seat _ r _ (refuses event other is) told_live e =
     let same : other ≡ r = cc in
     record { refused = is ∙ ap (λ q. Err q) same; is = ap (λ q. quiet s (Says (reply.Refused q))) same }
 refused-quiet s u seat _ r _ (repeats session pool x found same) told_live e = absurd (cc)
+refused-quiet s u seat _ r _ (caps_again session cap x found same) told_live e = absurd (cc)
+refused-quiet s u seat _ r _ (judges session x y answer is says) told_live e = absurd (check-told answer says r e)
+refused-quiet s u seat _ r _ (stops_again by target x y z may runs already) told_live e = absurd (cc)
 refused-quiet s u seat _ r _ (tells session x found active) told_live e = absurd (told_live x (session_of-found s seat session x found) (active-live x.phase active) r e)
+
+-- the session whose query waits from now on
+called-waiting : (s : State) (x : Session) → session_called s.sessions x.number ≡ Some x
+    → session_called (with_phase x.number phase.Waiting s.sessions) x.number ≡ Some (phased phase.Waiting x)
+called-waiting s x found = called-with_same x.number phase.Waiting s.sessions ∙ ap (option_map (phased phase.Waiting)) found
 
 refused-change : (s u : State) (seat : ℕ) (event : Event) (r : Refusal) (c : Change) → IsChange s seat event c → TellsLive c.state u → reply_of u c.answer ≡ reply.Refused r → ⊥
 refused-change s u seat _ r _ (defines statement new accepts) told_live e = cc
 refused-change s u seat _ r _ (opens user may) told_live e = cc
 refused-change s u seat _ r _ (chooses session pool x found may differs) told_live e = cc
+refused-change s u seat _ r _ (caps session cap x found room differs) told_live e = cc
 refused-change s u seat _ r _ (submits session floor x found may) told_live e =
-    let called : session_called (with_phase x.number phase.Waiting s.sessions) x.number ≡ Some (phased phase.Waiting x) =
-    called-with_same x.number phase.Waiting s.sessions ∙ ap (option_map (phased phase.Waiting)) (session_of-found s seat session x found) in
-    told_live (phased phase.Waiting x) called refl r e
+    told_live (phased phase.Waiting x) (called-waiting s x (session_of-found s seat session x found)) refl r e
 refused-change s u seat _ r _ (collects session x end found ended) told_live e = cc
+refused-change s u seat _ r _ (moves_on session x y pool is taken) told_live e = cc
+refused-change s u seat _ r _ (asks session x y pool is) told_live e = cc
+refused-change s u seat _ r _ (gives_way session x y pool found runs leaves) told_live e =
+    let number : y.session ≡ x.number = eqb-true y.session x.number (found_passes (λ (z : Runner). eqb z.session x.number) y s.running runs) in
+    let called : session_called (with_phase y.session phase.Waiting s.sessions) x.number ≡ Some (phased phase.Waiting x) =
+    ap (λ k. session_called (with_phase k phase.Waiting s.sessions) x.number) number ∙ called-waiting s x (session_of-found s seat session x found) in
+    told_live (phased phase.Waiting x) called refl r (ap (told u) (sym number) ∙ e)
 refused-change s u seat _ r _ (finishes session x found runs) told_live e = cc
+refused-change s u seat _ r _ (withdraws by target x y w may waits) told_live e = cc
+refused-change s u seat _ r _ (stops by target x y z may runs first) told_live e = cc
 refused-change s u seat _ r _ (closes session x found rests) told_live e = cc
 
 refused-still : (s : State) (seat : ℕ) (event : Event) (r : Refusal) (c : Change) → IsTried s seat event c → AreInPhase s.sessions s.waiting s.running → c.changed ≡ false
