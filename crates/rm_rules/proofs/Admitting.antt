@@ -17,6 +17,7 @@ use Rattle.rm_rules.proofs.Phases.{one_if-most, there_if_live, opened-with}
 use Rattle.rm_rules.proofs.Queue.{IsAmong, first_entitled_fits}
 use Rattle.rm_rules.proofs.There.{pools-admitted}
 use Rattle.rm_rules.proofs.Moving.{Goes, in_phase-goes, numbered-goes, owed-goes, room-owed}
+use Rattle.rm_rules.proofs.Timed.{timed-admitted}
 use Rattle.rm_rules.proofs.Covering.{covered-admitted}
 
 -- a phase in which a query waits is no other
@@ -115,5 +116,6 @@ healthy-admitted entries statements s w picked h =
       in_phase = in_phase-admitted s w h.in_phase among;
       opened = opened-with s.last_session w.session phase.Running s.sessions h.opened;
       numbered = numbered-admitted s w h.in_phase among h.numbered;
+      timed = timed-admitted s w among h.timed;
       room = room-admitted entries statements s w h.in_phase among h.room;
     }

@@ -64,6 +64,7 @@ admitted-alone s x pool floor sound sized there held known idle nobody small =
       runs = there.runs;
       waits = all_push (λ y. has_pool d y.pool) s.waiting w there.waits known;
       chosen = chosen-with d x.number phase.Waiting s.sessions there.chosen;
+      leaves = there.leaves;
     } in
     let u = shuffled_state t in
     let first = first-alone u w alone (fits-idle u w sound (sized-shuffled t sized) (covered-shuffled t sound sized all held) (shuffled-rests t sized) idle known) in

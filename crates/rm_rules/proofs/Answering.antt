@@ -33,6 +33,7 @@ healthy-idle entries statements s n ended h = record {
   in_phase = in_phase-collected n s.sessions s.waiting s.running ended h.in_phase;
   opened = opened-with s.last_session n phase.Idle s.sessions h.opened;
   numbered = h.numbered;
+  timed = h.timed;
   room =
       room-owed entries entries statements (owed s.sessions s.waiting s.running) (owed (with_phase n phase.Idle s.sessions) s.waiting s.running)
       s.journal s.room s.definitions.changes s.last_session s.last_query (omega arith) (omega (arith, owed-collected n s.sessions s.waiting s.running ended)) h.room;
@@ -118,6 +119,7 @@ kept-recorded s e answer is h = record {
   in_phase = h.in_phase;
   opened = h.opened;
   numbered = h.numbered;
+  timed = h.timed;
   room = room-turn s e (owed s.sessions s.waiting s.running) (is_defining answer) is h.room;
 }
 

@@ -1,5 +1,5 @@
 -- A list in which the first that passes a test is changed, and one in which an item comes or leaves.
-use Rattle.std.proofs.Common.{◌≡◌, ℕ, ◌+◌, Bool, true, false, cond, eqb, List, [], ◌∷◌, ◌++◌, length, Some, None, Option, refl, sym, ap, ◌∙◌, subst, arith, sum_by, count_by}
+use Rattle.std.proofs.Common.{◌≡◌, ℕ, ◌+◌, Bool, true, false, cond, eqb, List, [], ◌∷◌, ◌++◌, length, Some, None, Option, refl, sym, ap, ◌∙◌, subst, arith, sum_by, count_by, map}
 use Rattle.std.specs.Prelude.{option_map}
 use Rattle.std.specs.Option.{is_some}
 use Rattle.std.specs.List.{find, list_all}
@@ -90,6 +90,29 @@ pub without-changed : {A : Type 0} (test : A → Bool) (act : A → A) (xs : Lis
 without-changed test act [] kept = refl
 without-changed test act (x ∷ xs) kept = gone-turn test act x xs (test x) refl (kept x) (without-changed test act xs kept)
 
+-- in place of an item another of its key
+changed_one-turn : {A : Type 0} (p test : A → Bool) (act : A → A) (x y : A) (xs : List A) (b : Bool) → cond b (Some x) (find test xs) ≡ Some y → p (act y) ≡ true
+    → list_all p (x ∷ xs) ≡ true → (find test xs ≡ Some y → list_all p (changed_first test act xs) ≡ true) → list_all p (cond b (act x ∷ xs) (x ∷ changed_first test act xs)) ≡ true
+changed_one-turn p test act x y xs true found here all rest =
+    let same : x ≡ y = cc in
+    and_both (p (act x)) _ (ap (λ z. p (act z)) same ∙ here) (and_right (p x) (list_all p xs) all)
+changed_one-turn p test act x y xs false found here all rest = and_both (p x) _ (and_left (p x) (list_all p xs) all) (rest found)
+
+all-changed_one : {A : Type 0} (p test : A → Bool) (act : A → A) (y : A) (xs : List A) → find test xs ≡ Some y → p (act y) ≡ true → list_all p xs ≡ true
+    → list_all p (changed_first test act xs) ≡ true
+all-changed_one p test act y [] found here all = refl
+all-changed_one p test act y (x ∷ xs) found here all =
+    changed_one-turn p test act x y xs (test x) found here all (λ more. all-changed_one p test act y xs more here (and_right (p x) (list_all p xs) all))
+
+-- a change of which a reading is the same changes nothing that is read
+pub map-changed : {A B : Type 0} (f : A → B) (test : A → Bool) (act : A → A) (xs : List A) → ((x : A) → f (act x) ≡ f x) → map f (changed_first test act xs) ≡ map f xs
+map-changed f test act [] same = refl
+map-changed {A} f test act (x ∷ xs) same =
+    elim (test x) as (λ b. map f (cond b (act x ∷ xs) (x ∷ changed_first test act xs)) ≡ map f (x ∷ xs)) [
+      | true ↦ ap (λ y. y ∷ map f xs) (same x)
+      | false ↦ ap (λ ys. f x ∷ ys) (map-changed f test act xs same)
+    ]
+
 -- of an item that is there, or of none
 abbrev pub of_one : {A : Type 0} → (A → ℕ) → Option A → ℕ
 of_one f None = 0
@@ -125,6 +148,31 @@ turns-come key n y xs of = record {
   has_key = eq-eqb (key y) n of;
   all = λ p all here. all_push p xs y all here;
 }
+
+pub turns-change : {A : Type 0} (key : A → ℕ) (n : ℕ) (act : A → A) (y : A) (xs : List A) → find (λ x. eqb (key x) n) xs ≡ Some y → ((x : A) → key (act x) ≡ key x)
+    → Turns key n (Some y) (Some (act y)) xs (changed_first (λ x. eqb (key x) n) act xs)
+turns-change key n act y xs found keeps =
+    let of : eqb (key y) n ≡ true = found_passes (λ x. eqb (key x) n) y xs found in
+    record {
+      sums = λ f. omega (arith, sum-changed f (λ x. eqb (key x) n) act y xs found);
+      lengths = omega (arith, length-changed (λ x. eqb (key x) n) act xs);
+      had_key = of;
+      has_key = ap (λ k. eqb k n) (keeps y) ∙ of;
+      all = λ p all here. all-changed_one p (λ x. eqb (key x) n) act y xs found here all;
+    }
+
+-- one leaves, and another of its key comes
+pub turns-again : {A : Type 0} (key : A → ℕ) (n : ℕ) (y z : A) (xs : List A) → find (λ x. eqb (key x) n) xs ≡ Some y → key z ≡ n
+    → Turns key n (Some y) (Some z) xs (without (λ x. eqb (key x) n) xs ++ z ∷ [])
+turns-again key n y z xs found of =
+    let rest = without (λ x. eqb (key x) n) xs in
+    record {
+      sums = λ f. omega (arith, sum_without f (λ x. eqb (key x) n) y xs found, sum_by_push f rest z);
+      lengths = omega (arith, length_without (λ x. eqb (key x) n) y xs found, length_push rest z);
+      had_key = found_passes (λ x. eqb (key x) n) y xs found;
+      has_key = eq-eqb (key z) n of;
+      all = λ p all here. all_push p rest z (all_without p (λ x. eqb (key x) n) xs all) here;
+    }
 
 -- the item of this key leaves, where there is one
 pub turns-without : {A : Type 0} (key : A → ℕ) (n : ℕ) (xs : List A) → Turns key n (find (λ x. eqb (key x) n) xs) None xs (without (λ x. eqb (key x) n) xs)

@@ -18,6 +18,7 @@ use Rattle.rm_rules.proofs.Found.{is_some-find}
 use Rattle.rm_rules.proofs.Changed.{without-changed, turns-stay, turns-without}
 use Rattle.rm_rules.proofs.Phases.{has_number, phased, called-with_same, phase_of-found, phase_of-drop, count-drop, opened-with, opened-drop}
 use Rattle.rm_rules.proofs.Moving.{Goes, in_phase-goes, numbered-goes, owed-goes, room-owed}
+use Rattle.rm_rules.proofs.Timed.{timed-left}
 
 -- its query leaves the queue, if it has one
 abbrev pub goes-closed : (n : ℕ) (sessions : List Session) (waiting : List Waiter) (running : List Runner) → is_some (session_called sessions n) ≡ true
@@ -71,6 +72,7 @@ unsettled-closed s x h found is =
         runs = h.there.runs;
         waits = goes.waiters.all (λ w. has_pool s.definitions w.pool) h.there.waits refl;
         chosen = all_without (λ y. passes_if_set (has_pool s.definitions) y.pool) (has_number n) s.sessions h.there.chosen;
+        leaves = h.there.leaves;
       };
       held = h.covered.held;
       in_phase = subst (λ (l : List Session). AreInPhase l waits s.running) same
@@ -78,6 +80,7 @@ unsettled-closed s x h found is =
           (in_phase-goes n phase.Idle s.sessions s.waiting waits s.running s.running goes h.in_phase));
       opened = opened-drop s.last_session n x s.sessions found h.opened;
       numbered = numbered-goes s.last_query n phase.Idle s.sessions s.waiting waits s.running s.running goes (λ m. omega arith) h.numbered;
+      timed = timed-left s.clock n s.waiting s.running h.timed;
       room =
           room-owed 0 1 0 (owed s.sessions s.waiting s.running) (owed left waits s.running)
           s.journal s.room s.definitions.changes s.last_session s.last_query (omega arith)

@@ -212,4 +212,6 @@ there-after d new sessions waiting running after there = record {
   waits = all_wider (λ (w : Waiter). has_pool d w.pool) (λ w. has_pool new w.pool) waiting (λ w known. stays-there d new after w.pool known) there.waits;
   chosen = all_wider (λ (x : Session). passes_if_set (has_pool d) x.pool) (λ x. passes_if_set (has_pool new) x.pool) sessions
       (λ x known. set_wider (has_pool d) (has_pool new) x.pool (λ n is. stays-there d new after n is) known) there.chosen;
+  leaves = all_wider (λ (r : Runner). passes_if_set (has_pool d) r.leaving) (λ r. passes_if_set (has_pool new) r.leaving) running
+      (λ r known. set_wider (has_pool d) (has_pool new) r.leaving (λ n is. stays-there d new after n is) known) there.leaves;
 }

@@ -18,6 +18,7 @@ use Rattle.rm_rules.proofs.Queue.{IsAmong}
 use Rattle.rm_rules.proofs.There.{pools-ended}
 use Rattle.rm_rules.proofs.Moving.{Goes, in_phase-goes, numbered-goes, owed-goes, room-owed}
 use Rattle.rm_rules.proofs.Admitting.{waiting-just, session-waits, waiter_found}
+use Rattle.rm_rules.proofs.Timed.{timed-left}
 
 -- one count changes, and no counter comes or goes
 pub length_with_end : (rows : List PoolRow) (pool : Name) (end : End) (counters : List EndCounts) → length (with_end rows pool end counters) ≡ length counters
@@ -97,6 +98,7 @@ unsettled-ended entries statements end s w among h = record {
   in_phase = in_phase-ended end s w h.in_phase among;
   opened = opened-with s.last_session w.session (phase.Ended end) s.sessions h.opened;
   numbered = numbered-ended end s w h.in_phase among h.numbered;
+  timed = timed-left s.clock w.session s.waiting s.running h.timed;
   room = room-ended entries statements end s w h.in_phase among h.room;
 }
 
@@ -110,6 +112,7 @@ healthy-ended entries statements end s w among h = record {
   in_phase = in_phase-ended end s w h.in_phase among;
   opened = opened-with s.last_session w.session (phase.Ended end) s.sessions h.opened;
   numbered = numbered-ended end s w h.in_phase among h.numbered;
+  timed = timed-left s.clock w.session s.waiting s.running h.timed;
   room = room-ended entries statements end s w h.in_phase among h.room;
 }
 
@@ -123,5 +126,6 @@ healthy-ended-more entries statements end s w among h = record {
   in_phase = in_phase-ended end s w h.in_phase among;
   opened = opened-with s.last_session w.session (phase.Ended end) s.sessions h.opened;
   numbered = numbered-ended end s w h.in_phase among h.numbered;
+  timed = timed-left s.clock w.session s.waiting s.running h.timed;
   room = room-ended-more entries statements end s w h.in_phase among h.room;
 }

@@ -1,5 +1,5 @@
 -- What each event's change keeps, before the state settles.
-use Rattle.std.proofs.Common.{◌≡◌, ℕ, ◌+◌, ◌-◌, ◌*◌, ◌≤◌, ◌<◌, Bool, true, false, not, cond, eqb, leb, List, [], ◌∷◌, ◌++◌, length, Some, None, Ok, refl, sym, ap, ◌∙◌, arith, sum_by, count_by}
+use Rattle.std.proofs.Common.{◌≡◌, ℕ, ◌+◌, ◌-◌, ◌*◌, ◌≤◌, ◌<◌, Bool, true, false, not, ◌||◌, cond, eqb, leb, ltb, List, [], ◌∷◌, ◌++◌, length, Some, None, Option, Ok, refl, sym, ap, ◌∙◌, arith, sum_by, count_by}
 use Rattle.std.specs.Option.{is_some}
 use Rattle.std.specs.List.{list_all}
 use Rattle.std.proofs.lemmas.List.Sums.{sum_by-cons, sum_by_push}
@@ -20,28 +20,33 @@ use Rattle.rm_rules.specs.declared.state.Phase.TheVariants as phase
 use Rattle.rm_rules.specs.declared.state.Session.{Session}
 use Rattle.rm_rules.specs.declared.state.Waiter.{Waiter}
 use Rattle.rm_rules.specs.declared.state.Runner.{Runner}
-use Rattle.rm_rules.specs.State.{State, session_called, session_pool, phase_of, with_phase, with_choice, without_runner, is_idle, is_active, is_waiting, is_running, is_ended, live_queries, counted_entries, runner_of}
+use Rattle.rm_rules.specs.State.{State, changed_first, session_called, session_pool, phase_of, with_phase, without_runner, is_idle, is_active, is_waiting, is_running, is_ended, live_queries, counted_entries, runner_of}
 use Rattle.rm_rules.specs.Acceptance.{accepted}
 use Rattle.rm_rules.specs.Change.{Change, defined, opened, new_session, submitted, new_waiter, collected, finished, is_journal_full}
 use Rattle.rm_rules.specs.Replay.{IsFormed}
 use Rattle.rm_rules.specs.Sound.{has_pool}
 use Rattle.rm_rules.specs.Owed.{owed, entries_moving, entries_waiting, entries_running}
-use Rattle.rm_rules.specs.Healthy.{AreInPhase, AreThere, AreOpened, AreNumbered, IsHealthyWith, IsUnsettledWith, counted_for, defining_for, one_if}
+use Rattle.rm_rules.specs.Healthy.{was_asked, AreInPhase, AreThere, AreOpened, AreNumbered, IsHealthyWith, IsUnsettledWith, counted_for, defining_for, one_if}
 use Rattle.rm_rules.proofs.Taken.{and_left, and_right, all_found, all_push, all_wider, found_counted}
-use Rattle.rm_rules.proofs.Changed.{turns-stay, turns-leave, turns-come}
+use Rattle.rm_rules.proofs.Changed.{all-changed, length-changed, turns-stay, turns-leave, turns-come}
 use Rattle.rm_rules.proofs.Known.{session_pool-known, chosen-choice}
 use Rattle.rm_rules.proofs.Refused.{not_below}
 use Rattle.rm_rules.proofs.AcceptanceLaws.{accepted-sound, accepted-counted}
-use Rattle.rm_rules.proofs.Phases.{phase_of-found, count-with, phase_of-choice, count-choice, length-choice, opened-choice, opened-with, phase_of-push, count-push, there_if_live, live-counts, live-most, length-with}
+use Rattle.rm_rules.proofs.Phases.{has_number, choosing_pool, capped, KeepsQuery, phase_of-found, count-with, phase_of-kept, count-kept, opened-kept, opened-with, phase_of-push, count-push, there_if_live, live-counts, live-most, length-with}
 use Rattle.rm_rules.proofs.Moving.{Goes, in_phase-goes, there-goes, numbered-goes, owed-goes, room-owed}
 use Rattle.rm_rules.proofs.Covering.{held-finished, held-defined}
-use Rattle.rm_rules.proofs.Closing.{unsettled-closed}
-use Rattle.rm_rules.proofs.Changing.{IsChange, defines, opens, chooses, submits, collects, finishes, closes, MayOpen, MayChoose, MaySubmit, choice_made, session_of-found}
+use Rattle.rm_rules.proofs.Timed.{is_within, timed-goes}
+use Rattle.rm_rules.proofs.Changing.{MayOpen, MayChoose, MaySubmit, choice_made, cap_made}
 
--- a sum of what is at most so much each
-sum-within : {A : Type 0} (f : A → ℕ) (most : ℕ) (xs : List A) → ((x : A) → f x ≤ most) → sum_by f xs ≤ most * length xs
-sum-within f most [] within = omega arith
-sum-within f most (x ∷ xs) within = omega (arith, sum-within f most xs within, within x, sum_by-cons f x xs)
+-- a sum of what is at most so much each, where all pass a test
+sum-within : {A : Type 0} (f : A → ℕ) (most : ℕ) (p : A → Bool) (xs : List A) → ((x : A) → p x ≡ true → f x ≤ most) → list_all p xs ≡ true → sum_by f xs ≤ most * length xs
+sum-within f most p [] within all = omega arith
+sum-within f most p (x ∷ xs) within all =
+    omega (arith, sum-within f most p xs within (and_right (p x) (list_all p xs) all), within x (and_left (p x) (list_all p xs) all), sum_by-cons f x xs)
+
+all-pass : {A : Type 0} (xs : List A) → list_all (λ _. true) xs ≡ true
+all-pass [] = refl
+all-pass (x ∷ xs) = all-pass xs
 
 -- the most that one query makes
 abbrev share : ℕ
@@ -50,19 +55,28 @@ share = entries_moving 0 + 2
 waiting-within : (w : Waiter) → entries_waiting w ≤ share
 waiting-within w = omega arith
 
-running-within : (r : Runner) → entries_running r ≤ share
-running-within r = turn (is_some r.leaving) r.cancelled where
-  turn : (leaving cancelled : Bool) → cond leaving (entries_moving (r.moves - 1) - 1) (entries_moving r.moves) + cond cancelled 1 2 ≤ share
-  turn true true = omega arith
-  turn true false = omega arith
-  turn false true = omega arith
-  turn false false = omega arith
+some-moves : (n : ℕ) → ltb 0 n ≡ true → 1 ≤ n
+some-moves n h = grind (arith, nat_tests)
+
+running-within : (r : Runner) → was_asked r ≡ true → entries_running r ≤ share
+running-within r asked = turn (is_some r.leaving) r.cancelled asked where
+  turn : (leaving cancelled : Bool) → (not leaving || ltb 0 r.moves) ≡ true → entries_moving r.moves + cond leaving 3 1 + cond cancelled 0 1 ≤ share
+  turn true true asked = omega (arith, some-moves r.moves asked)
+  turn true false asked = omega (arith, some-moves r.moves asked)
+  turn false true asked = omega arith
+  turn false false asked = omega arith
 
 -- what is owed is within what refusal 25 keeps free and what the journal has beyond its room
-pub owed-within : (sessions : List Session) (waiting : List Waiter) (running : List Runner) → AreInPhase sessions waiting running
+pub owed-within : (sessions : List Session) (waiting : List Waiter) (running : List Runner) → AreInPhase sessions waiting running → list_all was_asked running ≡ true
     → owed sessions waiting running ≤ share * live_queries sessions + ENTRIES_A_SESSION * length sessions
-owed-within sessions waiting running h =
-    omega (arith, h.active, live-counts sessions, sum-within entries_waiting share waiting waiting-within, sum-within entries_running share running running-within)
+owed-within sessions waiting running h asked =
+    omega (
+      arith,
+      h.active,
+      live-counts sessions,
+      sum-within entries_waiting share (λ _. true) waiting (λ w _. waiting-within w) (all-pass waiting),
+      sum-within entries_running share was_asked running running-within asked,
+    )
 
 -- so where this refusal does not come there is room for an entry more
 room-left : (s : State) (live sessions owes : ℕ) → is_journal_full s live sessions ≡ false → owes ≤ share * live + ENTRIES_A_SESSION * sessions → live ≤ SESSIONS_MOST
@@ -70,7 +84,7 @@ room-left : (s : State) (live sessions owes : ℕ) → is_journal_full s live se
 room-left s live sessions owes not_full within few = omega (arith, not_below _ _ not_full)
 
 -- Define
-unsettled-defined : (s : State) (statement : Statement) (new : Definitions) → IsFormed (Define statement) → IsHealthyWith 0 0 s → accepted s.definitions statement ≡ Ok new
+pub unsettled-defined : (s : State) (statement : Statement) (new : Definitions) → IsFormed (Define statement) → IsHealthyWith 0 0 s → accepted s.definitions statement ≡ Ok new
     → IsUnsettledWith 0 1 (defined s new).state
 unsettled-defined s statement new formed h accepts =
     let counted = accepted-counted s.definitions statement new formed.0 accepts in
@@ -84,6 +98,7 @@ unsettled-defined s statement new formed h accepts =
       in_phase = h.in_phase;
       opened = h.opened;
       numbered = h.numbered;
+      timed = h.timed;
       room = record { kept = h.room.kept; defined = omega (arith, h.room.defined, counted.changes); sessions = h.room.sessions; queries = h.room.queries };
     }
 
@@ -124,7 +139,7 @@ opened-push last xs y next few h = record {
   own : leb (last + 1) (last + 1) ≡ true
   own = grind (arith, nat_tests)
 
-unsettled-opened : (s : State) (seat : ℕ) (user : Name) → IsHealthyWith 0 0 s → MayOpen s user → IsUnsettledWith 1 0 (opened s seat user).state
+pub unsettled-opened : (s : State) (seat : ℕ) (user : Name) → IsHealthyWith 0 0 s → MayOpen s user → IsUnsettledWith 1 0 (opened s seat user).state
 unsettled-opened s seat user h may =
     let y = new_session s seat user in
     let now = s.sessions ++ y ∷ [] in
@@ -140,14 +155,16 @@ unsettled-opened s seat user h may =
         runs = h.there.runs;
         waits = h.there.waits;
         chosen = all_push (λ x. passes_if_set (has_pool s.definitions) x.pool) s.sessions y h.there.chosen refl;
+        leaves = h.there.leaves;
       };
       held = h.covered.held;
       in_phase = in_phase;
       opened = opened-push s.last_session s.sessions y refl may.few h.opened;
       numbered = h.numbered;
+      timed = h.timed;
       room = record {
         kept = room-left s (live_queries s.sessions) (length s.sessions + 1) (owed now s.waiting s.running) may.not_full
-            (omega (arith, owed-within now s.waiting s.running in_phase, count-push (λ p. not (is_idle p)) s.sessions y refl, length_push s.sessions y))
+            (omega (arith, owed-within now s.waiting s.running in_phase h.timed.asked, count-push (λ p. not (is_idle p)) s.sessions y refl, length_push s.sessions y))
             (omega (arith, live-most s.sessions, may.few));
         defined = h.room.defined;
         sessions = omega (arith, h.room.sessions);
@@ -155,36 +172,47 @@ unsettled-opened s seat user h may =
       };
     }
 
--- SetPool
-unsettled-chosen : (s : State) (x : Session) (pool : Name) → IsHealthyWith 0 0 s → MayChoose s x pool → IsUnsettledWith 1 0 (choice_made s x pool).state
-unsettled-chosen s x pool h may =
-    let now = with_choice x.number pool s.sessions in
+-- SetPool and SetCap: what changes in a session beside its query
+unsettled-set : (s : State) (n : ℕ) (act : Session → Session) → KeepsQuery act
+    → list_all (λ x. passes_if_set (has_pool s.definitions) x.pool) (changed_first (has_number n) act s.sessions) ≡ true
+    → is_journal_full s (live_queries s.sessions) (length s.sessions) ≡ false → IsHealthyWith 0 0 s
+    → (let t : State = record s { sessions = changed_first (has_number n) act s.sessions } in IsUnsettledWith 1 0 t)
+unsettled-set s n act keeps chosen not_full h =
+    let now = changed_first (has_number n) act s.sessions in
     let in_phase : AreInPhase now s.waiting s.running = record {
-      waits = λ n. h.in_phase.waits n ∙ sym (ap (λ p. one_if (is_waiting p)) (phase_of-choice x.number n pool s.sessions));
-      runs = λ n. h.in_phase.runs n ∙ sym (ap (λ p. one_if (is_running p)) (phase_of-choice x.number n pool s.sessions));
-      active = h.in_phase.active ∙ sym (count-choice is_active x.number pool s.sessions);
+      waits = λ m. h.in_phase.waits m ∙ sym (ap (λ p. one_if (is_waiting p)) (phase_of-kept n m act s.sessions keeps));
+      runs = λ m. h.in_phase.runs m ∙ sym (ap (λ p. one_if (is_running p)) (phase_of-kept n m act s.sessions keeps));
+      active = h.in_phase.active ∙ sym (count-kept is_active n act s.sessions keeps);
     } in
     record {
       sound = h.sound;
       sized = h.sized;
-      there = record {
-        runs = h.there.runs;
-        waits = h.there.waits;
-        chosen = chosen-choice s.definitions x.number pool s.sessions may.pool_there h.there.chosen;
-      };
+      there = record { runs = h.there.runs; waits = h.there.waits; chosen = chosen; leaves = h.there.leaves };
       held = h.covered.held;
       in_phase = in_phase;
-      opened = opened-choice s.last_session x.number pool s.sessions h.opened;
+      opened = opened-kept s.last_session n act s.sessions keeps h.opened;
       numbered = h.numbered;
+      timed = h.timed;
       room = record {
-        kept = room-left s (live_queries s.sessions) (length s.sessions) (owed now s.waiting s.running) may.not_full
-            (omega (arith, owed-within now s.waiting s.running in_phase, count-choice (λ p. not (is_idle p)) x.number pool s.sessions, length-choice x.number pool s.sessions))
+        kept = room-left s (live_queries s.sessions) (length s.sessions) (owed now s.waiting s.running) not_full
+            (omega (arith, owed-within now s.waiting s.running in_phase h.timed.asked, count-kept (λ p. not (is_idle p)) n act s.sessions keeps, length-changed (has_number n) act s.sessions))
             (omega (arith, live-most s.sessions, h.opened.few));
         defined = h.room.defined;
         sessions = omega (arith, h.room.sessions);
         queries = omega (arith, h.room.queries);
       };
     }
+
+pub unsettled-chosen : (s : State) (x : Session) (pool : Name) → IsHealthyWith 0 0 s → MayChoose s x pool → IsUnsettledWith 1 0 (choice_made s x pool).state
+unsettled-chosen s x pool h may =
+    unsettled-set s x.number (choosing_pool pool) (record { number = λ y. refl; phase = λ y. refl })
+    (chosen-choice s.definitions x.number pool s.sessions may.pool_there h.there.chosen) may.not_full h
+
+pub unsettled-capped : (s : State) (x : Session) (cap : Option ℕ) → IsHealthyWith 0 0 s → is_journal_full s (live_queries s.sessions) (length s.sessions) ≡ false
+    → IsUnsettledWith 1 0 (cap_made s x cap).state
+unsettled-capped s x cap h not_full =
+    unsettled-set s x.number (capped cap) (record { number = λ y. refl; phase = λ y. refl })
+    (all-changed (λ y. passes_if_set (has_pool s.definitions) y.pool) (has_number x.number) (capped cap) s.sessions (λ y known. known) h.there.chosen) not_full h
 
 -- a phase in which there is no query, one in which a query runs, and one in which it has ended
 pub record IsJustIdle (p : Phase) : Type 0 where
@@ -256,7 +284,7 @@ numbered-submitted last waiting running w next h =
     (count_by (λ (r : Runner). eqb r.query n) running) (eqb w.query n) refl next (sum_by_push (λ (z : Waiter). cond (eqb z.query n) 1 0) waiting w) (h.once n) (h.given n) in
     record { once = λ n. (turn n).0; given = λ n above. (turn n).1 above }
 
-unsettled-submitted : (s : State) (x : Session) (floor : ℕ) → IsHealthyWith 0 0 s → session_called s.sessions x.number ≡ Some x → MaySubmit s x (session_pool s.definitions x) floor
+pub unsettled-submitted : (s : State) (x : Session) (floor : ℕ) → IsHealthyWith 0 0 s → session_called s.sessions x.number ≡ Some x → MaySubmit s x (session_pool s.definitions x) floor
     → IsUnsettledWith 1 0 (submitted s x (session_pool s.definitions x) floor).state
 unsettled-submitted s x floor h found may =
     let d = s.definitions in
@@ -271,14 +299,15 @@ unsettled-submitted s x floor h found may =
     record {
       sound = h.sound;
       sized = h.sized;
-      there = there-goes d x.number phase.Waiting s.sessions s.waiting (s.waiting ++ w ∷ []) s.running s.running goes (session_pool-known d x h.sound chosen) refl h.there;
+      there = there-goes d x.number phase.Waiting s.sessions s.waiting (s.waiting ++ w ∷ []) s.running s.running goes (session_pool-known d x h.sound chosen) refl refl h.there;
       held = h.covered.held;
       in_phase = in_phase;
       opened = opened-with s.last_session x.number phase.Waiting s.sessions h.opened;
       numbered = numbered-submitted s.last_query s.waiting s.running w refl h.numbered;
+      timed = timed-goes s.clock x.number phase.Waiting s.sessions s.waiting (s.waiting ++ w ∷ []) s.running s.running goes (is_within 0 s.clock (omega arith)) refl refl h.timed;
       room = record {
         kept = room-left s (live_queries s.sessions + 1) (length s.sessions) (owed now (s.waiting ++ w ∷ []) s.running) may.not_full
-            (omega (arith, owed-within now (s.waiting ++ w ∷ []) s.running in_phase, live, length-with x.number phase.Waiting s.sessions))
+            (omega (arith, owed-within now (s.waiting ++ w ∷ []) s.running in_phase h.timed.asked, live, length-with x.number phase.Waiting s.sessions))
             (omega (arith, live-most now, live, length-with x.number phase.Waiting s.sessions, h.opened.few));
         defined = h.room.defined;
         sessions = omega (arith, h.room.sessions);
@@ -313,7 +342,7 @@ in_phase-collected n sessions waiting running ended h =
 pub there-collected : (d : Definitions) (n : ℕ) (sessions : List Session) (waiting : List Waiter) (running : List Runner) → is_ended (phase_of sessions n) ≡ true
     → AreThere d sessions waiting running → AreThere d (with_phase n phase.Idle sessions) waiting running
 there-collected d n sessions waiting running ended h =
-    there-goes d n phase.Idle sessions waiting waiting running running (goes-collected n sessions waiting running ended) refl refl h
+    there-goes d n phase.Idle sessions waiting waiting running running (goes-collected n sessions waiting running ended) refl refl refl h
 
 -- and nothing more is owed to it
 pub owed-collected : (n : ℕ) (sessions : List Session) (waiting : List Waiter) (running : List Runner) → is_ended (phase_of sessions n) ≡ true
@@ -322,7 +351,7 @@ owed-collected n sessions waiting running ended =
     omega (arith, owed-goes n phase.Idle sessions waiting waiting running running (goes-collected n sessions waiting running ended), ap {B = ℕ} one_if ended)
 
 -- Poll
-unsettled-collected : (s : State) (x : Session) (end : End) → IsHealthyWith 0 0 s → session_called s.sessions x.number ≡ Some x → x.phase ≡ phase.Ended end
+pub unsettled-collected : (s : State) (x : Session) (end : End) → IsHealthyWith 0 0 s → session_called s.sessions x.number ≡ Some x → x.phase ≡ phase.Ended end
     → IsUnsettledWith 1 0 (collected s x end).state
 unsettled-collected s x end h found is =
     let ended : is_ended (phase_of s.sessions x.number) ≡ true = ap is_ended (phase_of-found x.number s.sessions x found ∙ is) in
@@ -334,6 +363,7 @@ unsettled-collected s x end h found is =
       in_phase = in_phase-collected x.number s.sessions s.waiting s.running ended h.in_phase;
       opened = opened-with s.last_session x.number phase.Idle s.sessions h.opened;
       numbered = h.numbered;
+      timed = h.timed;
       room =
           room-owed 0 1 0 (owed s.sessions s.waiting s.running) (owed (with_phase x.number phase.Idle s.sessions) s.waiting s.running)
           s.journal s.room s.definitions.changes s.last_session s.last_query (omega arith) (omega (arith, owed-collected x.number s.sessions s.waiting s.running ended)) h.room;
@@ -364,12 +394,12 @@ goes-finished n sessions waiting running r runs found =
     }
 
 running-some : (r : Runner) → 1 ≤ entries_running r
-running-some r = turn r.cancelled where
-  turn : (cancelled : Bool) → 1 ≤ cond (is_some r.leaving) (entries_moving (r.moves - 1) - 1) (entries_moving r.moves) + cond cancelled 1 2
+running-some r = turn (is_some r.leaving) where
+  turn : (leaving : Bool) → 1 ≤ entries_moving r.moves + cond leaving 3 1 + cond r.cancelled 0 1
   turn true = omega arith
   turn false = omega arith
 
-unsettled-finished : (s : State) (x : Session) → IsHealthyWith 0 0 s → session_called s.sessions x.number ≡ Some x → is_running x.phase ≡ true
+pub unsettled-finished : (s : State) (x : Session) → IsHealthyWith 0 0 s → session_called s.sessions x.number ≡ Some x → is_running x.phase ≡ true
     → IsUnsettledWith 1 0 (finished s x).state
 unsettled-finished s x h found is =
     let n = x.number in
@@ -380,24 +410,14 @@ unsettled-finished s x h found is =
     record {
       sound = h.sound;
       sized = h.sized;
-      there = there-goes s.definitions n phase.Idle s.sessions s.waiting s.waiting s.running left goes refl refl h.there;
+      there = there-goes s.definitions n phase.Idle s.sessions s.waiting s.waiting s.running left goes refl refl refl h.there;
       held = held-finished s n r.0 r.1 h.sound h.sized h.there h.covered.held;
       in_phase = in_phase-goes n phase.Idle s.sessions s.waiting s.waiting s.running left goes h.in_phase;
       opened = opened-with s.last_session n phase.Idle s.sessions h.opened;
       numbered = numbered-goes s.last_query n phase.Idle s.sessions s.waiting s.waiting s.running left goes (λ m. omega arith) h.numbered;
+      timed = timed-goes s.clock n phase.Idle s.sessions s.waiting s.waiting s.running left goes refl refl refl h.timed;
       room =
           room-owed 0 1 0 (owed s.sessions s.waiting s.running) (owed (with_phase n phase.Idle s.sessions) s.waiting left)
           s.journal s.room s.definitions.changes s.last_session s.last_query (omega arith)
           (omega (arith, owed-goes n phase.Idle s.sessions s.waiting s.waiting s.running left goes, running-some r.0)) h.room;
     }
-
--- what holds of every change, before it settles
-pub unsettled-changed : (s : State) (seat : ℕ) (event : Event) (c : Change) → IsFormed event → IsHealthyWith 0 0 s → IsChange s seat event c
-    → IsUnsettledWith (counted_for c.answer) (defining_for c.answer) c.state
-unsettled-changed s seat _ _ formed h (defines statement new accepts) = unsettled-defined s statement new formed h accepts
-unsettled-changed s seat _ _ formed h (opens user may) = unsettled-opened s seat user h may
-unsettled-changed s seat _ _ formed h (chooses session pool x found may other) = unsettled-chosen s x pool h may
-unsettled-changed s seat _ _ formed h (submits session floor x found may) = unsettled-submitted s x floor h (session_of-found s seat session x found) may
-unsettled-changed s seat _ _ formed h (collects session x end found ended) = unsettled-collected s x end h (session_of-found s seat session x found) ended
-unsettled-changed s seat _ _ formed h (finishes session x found runs) = unsettled-finished s x h (session_of-found s seat session x found) runs
-unsettled-changed s seat _ _ formed h (closes session x found rests) = unsettled-closed s x h (session_of-found s seat session x found) rests

@@ -39,11 +39,12 @@ pub healthy-start : (d : Definitions) (room : ℕ) → IsSound d → IsHealthy (
 healthy-start d room sound = record {
   sound = sound;
   sized = sized-start d room;
-  there = record { runs = refl; waits = refl; chosen = refl };
+  there = record { runs = refl; waits = refl; chosen = refl; leaves = refl };
   covered = covered-start d room sound;
   in_phase = record { waits = λ n. refl; runs = λ n. refl; active = refl };
   opened = record { once = λ n. omega arith; given = refl; few = omega arith };
   numbered = record { once = λ n. omega arith; given = λ n above. refl };
+  timed = record { waits = refl; runs = refl; asked = refl };
   room = record { kept = omega arith; defined = omega arith; sessions = omega arith; queries = omega arith };
 }
 

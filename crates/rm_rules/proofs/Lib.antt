@@ -1,4 +1,5 @@
 pub mod Taken
+pub mod Timed
 pub mod Places
 pub mod Once
 pub mod Rows
@@ -11,6 +12,7 @@ pub mod Sizes
 pub mod Refused
 pub mod PoolLaws
 pub mod GrantLaws
+pub mod Unsettled
 pub mod UserLaws
 pub mod AcceptanceLaws
 pub mod NewUsers

@@ -37,7 +37,8 @@ use Rattle.rm_rules.proofs.Queue.{IsAmong}
 use Rattle.rm_rules.proofs.Admitting.{waiter_found}
 use Rattle.rm_rules.proofs.Settling.{repeated-keeps, due-among, due-keeps, settled-keeps, rest-settled, rest-due}
 use Rattle.rm_rules.proofs.Changing.{IsTried, stays, changes, IsChange, defines, opens, chooses, caps, submits, collects, moves_on, asks, gives_way, finishes, withdraws, stops, closes, choice_made, cap_made, session_of-found, tried-is, rest-changed}
-use Rattle.rm_rules.proofs.Keeping.{unsettled-changed, running-just}
+use Rattle.rm_rules.proofs.Unsettled.{unsettled-changed}
+use Rattle.rm_rules.proofs.Keeping.{running-just}
 use Rattle.rm_rules.proofs.Answering.{beside-answered}
 use Rattle.rm_rules.proofs.Stepping.{moved-facts, none-found, outcome-turn}
 use Rattle.rm_rules.proofs.Foreign.{left-self, left-settled}

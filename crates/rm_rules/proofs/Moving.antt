@@ -70,11 +70,12 @@ in_phase-goes n q sessions w0 w1 r0 r1 g h = record {
 -- every pool is there, where that of what comes is
 pub there-goes : (d : Definitions) (n : ℕ) (q : Phase) (sessions : List Session) (w0 w1 : List Waiter) (r0 r1 : List Runner) (g : Goes n q sessions w0 w1 r0 r1)
     → passes_if_set (λ w. has_pool d w.pool) g.waits ≡ true → passes_if_set (λ r. has_pool d r.pool) g.runs ≡ true
-    → AreThere d sessions w0 r0 → AreThere d (with_phase n q sessions) w1 r1
-there-goes d n q sessions w0 w1 r0 r1 g waits runs h = record {
+    → passes_if_set (λ r. passes_if_set (has_pool d) r.leaving) g.runs ≡ true → AreThere d sessions w0 r0 → AreThere d (with_phase n q sessions) w1 r1
+there-goes d n q sessions w0 w1 r0 r1 g waits runs leaves h = record {
   runs = g.runners.all (λ r. has_pool d r.pool) h.runs runs;
   waits = g.waiters.all (λ w. has_pool d w.pool) h.waits waits;
   chosen = chosen-with d n q sessions h.chosen;
+  leaves = g.runners.all (λ r. passes_if_set (has_pool d) r.leaving) h.leaves leaves;
 }
 
 -- a query keeps its number, or leaves it to nobody

@@ -8,7 +8,7 @@ use Rattle.rm_base.specs.declared.name.Name.{Name}
 use Rattle.rm_rules.specs.declared.state.Phase.{Phase}
 use Rattle.rm_rules.specs.declared.state.Phase.TheVariants as phase
 use Rattle.rm_rules.specs.declared.state.Session.{Session}
-use Rattle.rm_rules.specs.State.{session_called, phase_of, with_phase, with_choice, without_session, is_idle, is_active, is_ended, is_waiting, is_running, live_queries, active_queries}
+use Rattle.rm_rules.specs.State.{session_called, phase_of, changed_first, with_phase, without_session, is_idle, is_active, is_ended, is_waiting, is_running, live_queries, active_queries}
 use Rattle.rm_rules.specs.Healthy.{AreOpened, one_if}
 use Rattle.rm_rules.proofs.Taken.{sum_without, length_without, count_without, all_without}
 use Rattle.rm_rules.proofs.Found.{find-without, none-left}
@@ -85,32 +85,49 @@ opened-with last n p xs h = record {
   few = omega (arith, h.few, length-with n p xs);
 }
 
--- another choice changes no phase, no count and no number
-chosen-in : (pool : Name) (o : Option Session) → phase_in (option_map (choosing_pool pool) o) ≡ phase_in o
-chosen-in pool None = refl
-chosen-in pool (Some x) = refl
+-- a change of a session that keeps its number and its phase: no phase, no count and no number changes
+pub record KeepsQuery (act : Session → Session) : Type 0 where
+  pub number : (x : Session) → (act x).number ≡ x.number
+  pub phase : (x : Session) → (act x).phase ≡ x.phase
 
-choice-turn : (n m : ℕ) (pool : Name) (xs : List Session) (b : Bool) → eqb n m ≡ b → phase_of (with_choice n pool xs) m ≡ phase_of xs m
-choice-turn n m pool xs true e =
-    subst (λ k. phase_of (with_choice n pool xs) k ≡ phase_of xs k) (eqb-true n m e)
-    (ap phase_in (found-changed (has_number n) (choosing_pool pool) xs (λ y. refl)) ∙ chosen-in pool (session_called xs n))
-choice-turn n m pool xs false e = ap phase_in (other-changed (has_number n) (has_number m) (choosing_pool pool) xs (λ y is. differ y.number n m e is) (λ y. refl))
+kept-in : (act : Session → Session) (o : Option Session) → KeepsQuery act → phase_in (option_map act o) ≡ phase_in o
+kept-in act None keeps = refl
+kept-in act (Some x) keeps = keeps.phase x
 
-pub phase_of-choice : (n m : ℕ) (pool : Name) (xs : List Session) → phase_of (with_choice n pool xs) m ≡ phase_of xs m
-phase_of-choice n m pool xs = choice-turn n m pool xs (eqb n m) refl
+numbered-as : (n : ℕ) (act : Session → Session) → KeepsQuery act → (x : Session) → has_number n (act x) ≡ has_number n x
+numbered-as n act keeps x = ap (λ k. eqb k n) (keeps.number x)
 
-pub count-choice : (test : Phase → Bool) (n : ℕ) (pool : Name) (xs : List Session) → count_by (λ z. test z.phase) (with_choice n pool xs) ≡ count_by (λ z. test z.phase) xs
-count-choice test n pool xs = sum-kept (λ (z : Session). cond (test z.phase) 1 0) (has_number n) (choosing_pool pool) xs (λ z. refl)
+kept-turn : (n m : ℕ) (act : Session → Session) (xs : List Session) (b : Bool) → KeepsQuery act → eqb n m ≡ b → phase_of (changed_first (has_number n) act xs) m ≡ phase_of xs m
+kept-turn n m act xs true keeps e =
+    subst (λ k. phase_of (changed_first (has_number n) act xs) k ≡ phase_of xs k) (eqb-true n m e)
+    (ap phase_in (found-changed (has_number n) act xs (numbered-as n act keeps)) ∙ kept-in act (session_called xs n) keeps)
+kept-turn n m act xs false keeps e = ap phase_in (other-changed (has_number n) (has_number m) act xs (λ y is. differ y.number n m e is) (numbered-as m act keeps))
 
-pub length-choice : (n : ℕ) (pool : Name) (xs : List Session) → length (with_choice n pool xs) ≡ length xs
-length-choice n pool xs = length-changed (has_number n) (choosing_pool pool) xs
+pub phase_of-kept : (n m : ℕ) (act : Session → Session) (xs : List Session) → KeepsQuery act → phase_of (changed_first (has_number n) act xs) m ≡ phase_of xs m
+phase_of-kept n m act xs keeps = kept-turn n m act xs (eqb n m) keeps refl
 
-pub opened-choice : (last n : ℕ) (pool : Name) (xs : List Session) → AreOpened last xs → AreOpened last (with_choice n pool xs)
-opened-choice last n pool xs h = record {
-  once = λ m. omega (arith, h.once m, sum-kept (λ (z : Session). cond (eqb z.number m) 1 0) (has_number n) (choosing_pool pool) xs (λ z. refl));
-  given = all-changed (λ z. leb z.number last) (has_number n) (choosing_pool pool) xs (λ z given. given) h.given;
-  few = omega (arith, h.few, length-choice n pool xs);
+pub count-kept : (test : Phase → Bool) (n : ℕ) (act : Session → Session) (xs : List Session) → KeepsQuery act
+    → count_by (λ z. test z.phase) (changed_first (has_number n) act xs) ≡ count_by (λ z. test z.phase) xs
+count-kept test n act xs keeps = sum-kept (λ (z : Session). cond (test z.phase) 1 0) (has_number n) act xs (λ z. ap {B = ℕ} (λ p. cond (test p) 1 0) (keeps.phase z))
+
+pub opened-kept : (last n : ℕ) (act : Session → Session) (xs : List Session) → KeepsQuery act → AreOpened last xs → AreOpened last (changed_first (has_number n) act xs)
+opened-kept last n act xs keeps h = record {
+  once = λ m. omega (arith, h.once m, sum-kept (λ (z : Session). cond (eqb z.number m) 1 0) (has_number n) act xs (λ z. ap {B = ℕ} (λ b. cond b 1 0) (numbered-as m act keeps z)));
+  given = all-changed (λ z. leb z.number last) (has_number n) act xs (λ z given. ap (λ k. leb k last) (keeps.number z) ∙ given) h.given;
+  few = omega (arith, h.few, length-changed (has_number n) act xs);
 }
+
+-- a session that is given the phase in which it is stays as it is
+same-turn : (n : ℕ) (p : Phase) (x y : Session) (xs : List Session) (b : Bool) → cond b (Some x) (session_called xs n) ≡ Some y → y.phase ≡ p
+    → (session_called xs n ≡ Some y → with_phase n p xs ≡ xs) → cond b (phased p x ∷ xs) (x ∷ with_phase n p xs) ≡ x ∷ xs
+same-turn n p x y xs true found is rest =
+    let same : x ≡ y = cc in
+    ap (λ q. (let z : Session = record x { phase = q } in z) ∷ xs) (sym (ap (λ (z : Session). z.phase) same ∙ is))
+same-turn n p x y xs false found is rest = ap (λ l. x ∷ l) (rest found)
+
+pub with_phase-same : (n : ℕ) (p : Phase) (y : Session) (xs : List Session) → session_called xs n ≡ Some y → y.phase ≡ p → with_phase n p xs ≡ xs
+with_phase-same n p y [] found is = refl
+with_phase-same n p y (x ∷ xs) found is = same-turn n p x y xs (has_number n x) found is (λ more. with_phase-same n p y xs more is)
 
 -- a new session that is idle changes no phase and no count of those that are not idle
 pushed-turn : (m : ℕ) (xs : List Session) (y : Session) → y.phase ≡ phase.Idle → phase_of (xs ++ y ∷ []) m ≡ phase_of xs m

@@ -99,7 +99,7 @@ found_among test w [] found = let none : None ≡ Some w = found in absurd (cc)
 found_among test w (x ∷ ws) found = found-turn test x w ws (test x) found (found_among test w ws)
 
 -- what fits needs no more than is free
-enough-turn : (p : Bool) (n l t f : ℕ) → (p && (eqb n 0 || (leb l t && leb n f))) ≡ true → n ≤ f
+pub enough-turn : (p : Bool) (n l t f : ℕ) → (p && (eqb n 0 || (leb l t && leb n f))) ≡ true → n ≤ f
 enough-turn p n l t f h = grind (arith, nat_tests)
 
 pub enough : (d : Definitions) (h : Holdings) (w : Waiter) → (judged_for d h w).fits ≡ true → need h w.pool (ask_of d w) ≤ free h

@@ -83,6 +83,7 @@ healthy-shuffled entries statements s h = record {
   in_phase = h.in_phase;
   opened = h.opened;
   numbered = h.numbered;
+  timed = h.timed;
   room = h.room;
 }
 

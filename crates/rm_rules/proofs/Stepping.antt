@@ -1,5 +1,5 @@
 -- What each event leaves: a healthy state, and a journal with what the event made.
-use Rattle.std.proofs.Common.{◌≡◌, ℕ, Bool, true, false, ◌||◌, cond, Some, None, Option, refl, sym}
+use Rattle.std.proofs.Common.{◌≡◌, ℕ, Bool, true, false, ◌||◌, cond, Some, None, Option, refl, sym, arith, max}
 use Rattle.std.specs.Option.{is_some}
 use Rattle.std.proofs.lemmas.Bool.{false≢true}
 use Rattle.rm_base.specs.declared.event.Event.{Event}
@@ -15,7 +15,8 @@ use Rattle.rm_rules.specs.Replay.{IsFormed}
 use Rattle.rm_rules.specs.Healthy.{IsHealthyWith, IsUnsettledWith, IsHealthy, IsUnsettled, counted_for, defining_for}
 use Rattle.rm_rules.proofs.Settling.{kept-settled, kept-without_due, kept-due-more, none-due}
 use Rattle.rm_rules.proofs.Changing.{IsTried, stays, changes, quiet-plain, tried-is}
-use Rattle.rm_rules.proofs.Keeping.{unsettled-changed}
+use Rattle.rm_rules.proofs.Timed.{timed-later}
+use Rattle.rm_rules.proofs.Unsettled.{to_unsettled, unsettled-changed}
 use Rattle.rm_rules.proofs.Answering.{kept-answered, kept-recorded, answer-as}
 
 -- at a later moment, and after the deadlines
@@ -28,6 +29,7 @@ moved-facts s at h = record {
   in_phase = h.in_phase;
   opened = h.opened;
   numbered = h.numbered;
+  timed = timed-later s.clock (max s.clock at) s.waiting s.running (omega arith) h.timed;
   room = h.room;
 }
 
@@ -49,18 +51,6 @@ none-turn s at (Some w) is empty = absurd (false≢true (sym empty))
 
 pub none-found : (s : State) (at : ℕ) → has_due s at ≡ false → found_at s at ≡ moved_to s at
 none-found s at none = none-turn s at (first_due (moved_to s at)) refl none
-
-pub to_unsettled : (entries statements : ℕ) (s : State) → IsHealthyWith entries statements s → IsUnsettledWith entries statements s
-to_unsettled entries statements s h = record {
-  sound = h.sound;
-  sized = h.sized;
-  there = h.there;
-  held = h.covered.held;
-  in_phase = h.in_phase;
-  opened = h.opened;
-  numbered = h.numbered;
-  room = h.room;
-}
 
 stays-turn : (t : State) (answer : Answer) (b : Bool) → is_defining answer ≡ b → b ≡ false → IsHealthyWith 1 0 t → IsUnsettledWith (cond b 0 1) (cond b 1 0) t
 stays-turn t answer true is plain h = absurd (false≢true (sym plain))

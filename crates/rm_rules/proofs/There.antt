@@ -1,7 +1,8 @@
 -- Every pool that is named stays there while queries are admitted and end in the queue.
-use Rattle.std.proofs.Common.{◌≡◌, true, eqb, List, subst}
+use Rattle.std.proofs.Common.{◌≡◌, true, eqb, List, refl, subst}
 use Rattle.std.specs.List.{list_all}
 use Rattle.rm_base.specs.declared.reply.End.{End}
+use Rattle.rm_base.specs.Ranges.{passes_if_set}
 use Rattle.rm_rules.specs.declared.state.Phase.TheVariants as phase
 use Rattle.rm_rules.specs.declared.state.Waiter.{Waiter}
 use Rattle.rm_rules.specs.State.{State}
@@ -25,6 +26,7 @@ pools-ended end s w there = record {
   runs = there.runs;
   waits = all_without (λ x. has_pool s.definitions x.pool) (λ x. eqb x.session w.session) s.waiting there.waits;
   chosen = chosen-with s.definitions w.session (phase.Ended end) s.sessions there.chosen;
+  leaves = there.leaves;
 }
 
 pub pools-admitted : (s : State) (w : Waiter) → IsAmong w s.waiting → AreThere s.definitions s.sessions s.waiting s.running
@@ -33,4 +35,5 @@ pools-admitted s w among there = record {
   runs = all_push (λ r. has_pool s.definitions r.pool) s.running (started s w) there.runs (waiting-there s w among there);
   waits = all_without (λ x. has_pool s.definitions x.pool) (λ x. eqb x.session w.session) s.waiting there.waits;
   chosen = chosen-with s.definitions w.session phase.Running s.sessions there.chosen;
+  leaves = all_push (λ r. passes_if_set (has_pool s.definitions) r.leaving) s.running (started s w) there.leaves refl;
 }

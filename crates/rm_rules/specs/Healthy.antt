@@ -1,5 +1,5 @@
 -- What every state of the machine keeps. Each fact is over what it reads, so what an event leaves alone stays as it was.
-use Rattle.std.specs.Prelude.{◌≡◌, ℕ, ◌+◌, ◌<◌, ◌≤◌, nat_le, Bool, true, ◌&&◌, ◌==◌, List, length, count_by, if◌then◌else◌}
+use Rattle.std.specs.Prelude.{◌≡◌, ℕ, ◌+◌, ◌<◌, ◌≤◌, nat_le, nat_lt, Bool, true, not, ◌&&◌, ◌||◌, ◌==◌, is_some, List, length, count_by, if◌then◌else◌}
 use Rattle.std.specs.List.{list_all}
 use Rattle.rm_base.specs.declared.definitions.Definitions.{Definitions}
 use Rattle.rm_base.specs.declared.entry.EndCounts.{EndCounts}
@@ -30,16 +30,21 @@ pub record AreThere (d : Definitions) (sessions : List Session) (waiting : List 
   pub chosen : list_all (λ x. passes_if_set (has_pool d) x.pool) sessions ≡ true
   pub leaves : list_all (λ r. passes_if_set (has_pool d) r.leaving) running ≡ true
 
--- no query has run for longer than the clock says that it may have, and none began after it
+-- no query has run for longer than the clock says that it may have, none began after it, and one that is to give way was
+-- asked to, which counts as a move
 abbrev pub ran_by : ℕ → Waiter → Bool
 ran_by clock w = nat_le w.ran clock
 
 abbrev pub began_by : ℕ → Runner → Bool
 began_by clock r = nat_le r.ran r.start && nat_le r.start clock
 
+abbrev pub was_asked : Runner → Bool
+was_asked r = not (is_some r.leaving) || nat_lt 0 r.moves
+
 pub record AreTimed (clock : ℕ) (waiting : List Waiter) (running : List Runner) : Type 0 where
   pub waits : list_all (ran_by clock) waiting ≡ true
   pub runs : list_all (began_by clock) running ≡ true
+  pub asked : list_all was_asked running ≡ true
 
 -- what is reserved and lent, and what is granted, is within the memory in force, and that within the machine's
 pub record AreWithinMemory (d : Definitions) (h : Holdings) : Type 0 where
