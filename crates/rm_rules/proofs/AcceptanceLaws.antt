@@ -1,7 +1,6 @@
 -- What is accepted leads from sound definitions to sound ones, and counts one change.
 use Rattle.std.specs.Prelude.{◌≡◌, ◌+◌, ◌<◌, Bool, true, false, cond, ◌++◌, [], ◌∷◌, None, Ok, refl}
 use Rattle.std.proofs.Common.{subst, arith}
-use Rattle.std.proofs.lemmas.Bool.{false≢true}
 use Rattle.rm_base.specs.declared.limits.TheConstants.{CHANGES_MOST}
 use Rattle.rm_base.specs.declared.definitions.Definitions.{Definitions}
 use Rattle.rm_base.specs.declared.rows.GrantRow.{GrantRow}
@@ -11,28 +10,29 @@ use Rattle.rm_base.specs.declared.statement.Statement.TheVariants.{CreatePool, A
 use Rattle.rm_base.specs.Ranges.{is_statement_in_range}
 use Rattle.rm_rules.specs.Sound.{IsSound, has_grant}
 use Rattle.rm_rules.specs.GrantStatements.{usage_grant, with_grant}
-use Rattle.rm_rules.specs.Acceptance.{is_judged, refusal_of, left_by, counted, accepted}
+use Rattle.rm_rules.specs.Acceptance.{refusal_of, left_by, counted, accepted}
 use Rattle.rm_rules.proofs.Refused.{unless-ok, IsLeft}
 use Rattle.rm_rules.proofs.PoolLaws.{left-create_pool, left-alter_pool}
 use Rattle.rm_rules.proofs.GrantLaws.{left-grant_usage, left-revoke_usage, left-grant_role, left-revoke_role}
+use Rattle.rm_rules.proofs.DropLaws.{left-drop_pool}
 use Rattle.rm_rules.proofs.UserLaws.{left-create_user, left-alter_user, left-drop_user, left-create_role, left-alter_role, left-drop_role}
 
 -- what is not refused leaves sound definitions
-pub left-right : (d : Definitions) (statement : Statement) → IsSound d → is_statement_in_range statement ≡ true → is_judged statement ≡ true
-    → refusal_of d statement ≡ None → IsLeft d (left_by d statement)
-left-right d (CreatePool name c) sound formed is h = left-create_pool d name c sound formed h
-left-right d (AlterPool name c) sound formed is h = left-alter_pool d name c sound formed h
-left-right d (DropPool name) sound formed is h = absurd (false≢true is)
-left-right d (CreateUser name c) sound formed is h = left-create_user d name c sound formed h
-left-right d (AlterUser name c) sound formed is h = left-alter_user d name c sound formed h
-left-right d (DropUser name) sound formed is h = left-drop_user d name sound h
-left-right d (CreateRole name) sound formed is h = left-create_role d name sound h
-left-right d (AlterRole name pool) sound formed is h = left-alter_role d name pool sound h
-left-right d (DropRole name) sound formed is h = left-drop_role d name sound h
-left-right d (GrantUsage pool grantee) sound formed is h = left-grant_usage d pool grantee sound h
-left-right d (RevokeUsage pool grantee) sound formed is h = left-revoke_usage d pool grantee sound h
-left-right d (GrantRole role user) sound formed is h = left-grant_role d role user sound h
-left-right d (RevokeRole role user) sound formed is h = left-revoke_role d role user sound h
+pub left-right : (d : Definitions) (statement : Statement) → IsSound d → is_statement_in_range statement ≡ true → refusal_of d statement ≡ None
+    → IsLeft d (left_by d statement)
+left-right d (CreatePool name c) sound formed h = left-create_pool d name c sound formed h
+left-right d (AlterPool name c) sound formed h = left-alter_pool d name c sound formed h
+left-right d (DropPool name) sound formed h = left-drop_pool d name sound h
+left-right d (CreateUser name c) sound formed h = left-create_user d name c sound formed h
+left-right d (AlterUser name c) sound formed h = left-alter_user d name c sound formed h
+left-right d (DropUser name) sound formed h = left-drop_user d name sound h
+left-right d (CreateRole name) sound formed h = left-create_role d name sound h
+left-right d (AlterRole name pool) sound formed h = left-alter_role d name pool sound h
+left-right d (DropRole name) sound formed h = left-drop_role d name sound h
+left-right d (GrantUsage pool grantee) sound formed h = left-grant_usage d pool grantee sound h
+left-right d (RevokeUsage pool grantee) sound formed h = left-revoke_usage d pool grantee sound h
+left-right d (GrantRole role user) sound formed h = left-grant_role d role user sound h
+left-right d (RevokeRole role user) sound formed h = left-revoke_role d role user sound h
 
 -- a change more is sound where there is room for it
 pub sound-counted : (d : Definitions) → IsSound d → d.changes < CHANGES_MOST → IsSound (counted d)
@@ -95,11 +95,11 @@ pub accepted-left : (d : Definitions) (statement : Statement) (new : Definitions
     → (refusal_of d statement ≡ None) × (counted (left_by d statement) ≡ new)
 accepted-left d statement new h = unless-ok (refusal_of d statement) (counted (left_by d statement)) new h
 
-pub accepted-sound : (d : Definitions) (statement : Statement) (new : Definitions) → IsSound d → is_statement_in_range statement ≡ true → is_judged statement ≡ true
+pub accepted-sound : (d : Definitions) (statement : Statement) (new : Definitions) → IsSound d → is_statement_in_range statement ≡ true
     → accepted d statement ≡ Ok new → IsSound new
-accepted-sound d statement new sound formed is h =
+accepted-sound d statement new sound formed h =
     let parts = accepted-left d statement new h in
-    let left = left-right d statement sound formed is parts.0 in
+    let left = left-right d statement sound formed parts.0 in
     let kept = left-kept d statement in
     subst IsSound parts.1 (sound-counted (left_by d statement) left.sound (omega (arith, left.changes, kept.changes)))
 
@@ -109,7 +109,7 @@ pub record IsCounted (d new : Definitions) : Type 0 where
   pub memory : new.memory ≡ d.memory
   pub cores : new.cores ≡ d.cores
 
-pub accepted-counted : (d : Definitions) (statement : Statement) (new : Definitions) → is_judged statement ≡ true → accepted d statement ≡ Ok new → IsCounted d new
-accepted-counted d statement new is h =
+pub accepted-counted : (d : Definitions) (statement : Statement) (new : Definitions) → accepted d statement ≡ Ok new → IsCounted d new
+accepted-counted d statement new h =
     let kept = left-kept d statement in
     subst (IsCounted d) (accepted-left d statement new h).1 (record { changes = omega (arith, kept.changes); memory = kept.memory; cores = kept.cores })

@@ -15,6 +15,7 @@ use Rattle.rm_base.specs.declared.reply.Reply.{Reply}
 use Rattle.rm_base.specs.declared.reply.Reply.TheVariants as reply
 use Rattle.rm_base.specs.Name.{same_name}
 use Rattle.rm_base.specs.declared.statement.Statement.{Statement}
+use Rattle.rm_base.specs.declared.statement.Statement.TheVariants.{CreatePool, AlterPool, DropPool, CreateUser, AlterUser, DropUser, CreateRole, AlterRole, DropRole, GrantUsage, RevokeUsage, GrantRole, RevokeRole}
 use Rattle.rm_rules.specs.declared.answer.Answer.{Answer}
 use Rattle.rm_rules.specs.declared.answer.Answer.TheVariants.{Says, Tells, Collects}
 use Rattle.rm_rules.specs.declared.state.Phase.{Phase}
@@ -30,12 +31,14 @@ use Rattle.rm_rules.specs.Refusals.{pool_missing, user_missing}
 use Rattle.rm_rules.specs.Acceptance.{accepted}
 use Rattle.rm_rules.specs.Ask.{is_too_large}
 use Rattle.rm_rules.specs.State.{State, is_defined, waiter_of, runner_of, with_cap, session_called, session_of, if_opened_by, session_pool, with_choice, is_idle, is_active, is_running, live_queries}
-use Rattle.rm_rules.specs.Change.{Change, quiet, changing, with_session, size_refusal, session_busy, not_live, not_running, usage_missing, sessions_full, journal_full, is_journal_full, defined, defining_to, opened, opening_refusal, has_chosen, chosen, choosing_refusal, choosing, submitted, submitting_refusal, submitting, polled, polling, collected, finished, finishing, session_running, closed, closing, within_moments, has_cap, cap_set, capping, with_runner, checked_to, checked, checking, giving_way_to, giving_way, withdrawn, stopped, cancelled, cancelled_by, cancelling, change, tried}
+use Rattle.rm_rules.specs.Change.{Change, quiet, changing, with_session, size_refusal, session_busy, not_live, not_running, usage_missing, sessions_full, journal_full, is_journal_full, defined, defined_by, defining_to, opened, opening_refusal, has_chosen, chosen, choosing_refusal, choosing, submitted, submitting_refusal, submitting, polled, polling, collected, finished, finishing, session_running, closed, closing, within_moments, has_cap, cap_set, capping, with_runner, checked_to, checked, checking, giving_way_to, giving_way, withdrawn, stopped, cancelled, cancelled_by, cancelling, change, tried}
+use Rattle.rm_rules.specs.DropPool.{dropped}
 use Rattle.rm_rules.specs.Target.{running_time, verdict}
 use Rattle.rm_rules.specs.Moving.{takes, moved_on, asked_to_leave, gave_way, asked_to_stop}
 use Rattle.rm_rules.specs.Answers.{is_defining}
 use Rattle.rm_rules.specs.Sound.{has_pool}
 use Rattle.rm_rules.proofs.Taken.{found_passes, not_true}
+use Rattle.rm_rules.proofs.Defining.{drops_none}
 use Rattle.rm_rules.proofs.Verdicts.{IsCheckReply, says_go, says_way, says_end, says_stop, verdict-says}
 use Rattle.rm_rules.proofs.Refused.{not-refused, first-none, not_above, unless-ok}
 
@@ -157,7 +160,10 @@ pub record MayCancel (s : State) (seat by target : ℕ) (x y : Session) : Type 0
 
 -- what each accepted event changes, if it changes anything
 pub data IsChange (s : State) (seat : ℕ) : Event → Change → Type 0 where
-  defines : (statement : Statement) (new : Definitions) → accepted s.definitions statement ≡ Ok new → IsChange s seat (Define statement) (defined s new)
+  defines : (statement : Statement) (new : Definitions) → drops_none statement ≡ true → accepted s.definitions statement ≡ Ok new
+      → IsChange s seat (Define statement) (changing (defined s new) (Says reply.Defined))
+  drops : (pool : Name) (new : Definitions) → accepted s.definitions (DropPool pool) ≡ Ok new
+      → IsChange s seat (Define (DropPool pool)) (changing (dropped s pool new) (Says reply.Defined))
   opens : (user : Name) → MayOpen s user → IsChange s seat (Open user) (opened s seat user)
   chooses : (session : ℕ) (pool : Name) (x : Session) → session_of s seat session ≡ Some x → MayChoose s x pool → has_chosen x pool ≡ false
       → IsChange s seat (SetPool session pool) (choice_made s x pool)
@@ -218,10 +224,29 @@ made-change s seat event made c is loud change = subst (IsTried s seat event) is
 made-quiet : (s : State) (seat : ℕ) (event : Event) (answer : Answer) (c : Change) → quiet s answer ≡ c → IsQuiet s seat event answer → IsTried s seat event c
 made-quiet s seat event answer c is still = subst (IsTried s seat event) is (stays answer still)
 
-define-turn : (s : State) (seat : ℕ) (statement : Statement) (r : Result Definitions Refusal) (c : Change) → accepted s.definitions statement ≡ r → defining_to s r ≡ Ok c
+by-statement : (s : State) (seat : ℕ) (statement : Statement) (new : Definitions) → accepted s.definitions statement ≡ Ok new
+    → IsChange s seat (Define statement) (changing (defined_by s statement new) (Says reply.Defined))
+by-statement s seat (CreatePool name change) new e = defines (CreatePool name change) new refl e
+by-statement s seat (AlterPool name change) new e = defines (AlterPool name change) new refl e
+by-statement s seat (DropPool name) new e = drops name new e
+by-statement s seat (CreateUser name change) new e = defines (CreateUser name change) new refl e
+by-statement s seat (AlterUser name change) new e = defines (AlterUser name change) new refl e
+by-statement s seat (DropUser name) new e = defines (DropUser name) new refl e
+by-statement s seat (CreateRole name) new e = defines (CreateRole name) new refl e
+by-statement s seat (AlterRole name pool) new e = defines (AlterRole name pool) new refl e
+by-statement s seat (DropRole name) new e = defines (DropRole name) new refl e
+by-statement s seat (GrantUsage pool grantee) new e = defines (GrantUsage pool grantee) new refl e
+by-statement s seat (RevokeUsage pool grantee) new e = defines (RevokeUsage pool grantee) new refl e
+by-statement s seat (GrantRole role user) new e = defines (GrantRole role user) new refl e
+by-statement s seat (RevokeRole role user) new e = defines (RevokeRole role user) new refl e
+
+define-turn : (s : State) (seat : ℕ) (statement : Statement) (r : Result Definitions Refusal) (c : Change) → accepted s.definitions statement ≡ r → defining_to s statement r ≡ Ok c
     → IsTried s seat (Define statement) c
 define-turn s seat statement (Err refusal) c e h = absurd (cc)
-define-turn s seat statement (Ok new) c e h = let is : defined s new ≡ c = cc in made-change s seat (Define statement) (defined s new) c is refl (defines statement new e)
+define-turn s seat statement (Ok new) c e h =
+    let made = changing (defined_by s statement new) (Says reply.Defined) in
+    let is : made ≡ c = cc in
+    made-change s seat (Define statement) made c is refl (by-statement s seat statement new e)
 
 choose-turn : (s : State) (seat session : ℕ) (pool : Name) (x : Session) (c : Change) (b : Bool) → session_of s seat session ≡ Some x → MayChoose s x pool → has_chosen x pool ≡ b
     → cond b (quiet s (Says reply.Set)) (choice_made s x pool) ≡ c → IsTried s seat (SetPool session pool) c
@@ -370,7 +395,8 @@ pub record LeavesJournal (s t : State) : Type 0 where
   pub in_force : t.in_force ≡ s.in_force
 
 pub rest-changed : (s : State) (seat : ℕ) (event : Event) (c : Change) → IsChange s seat event c → LeavesJournal s c.state
-rest-changed s seat _ _ (defines statement new accepts) = record { journal = refl; clock = refl; room = refl; in_force = refl }
+rest-changed s seat _ _ (defines statement new none accepts) = record { journal = refl; clock = refl; room = refl; in_force = refl }
+rest-changed s seat _ _ (drops pool new accepts) = record { journal = refl; clock = refl; room = refl; in_force = refl }
 rest-changed s seat _ _ (opens user may) = record { journal = refl; clock = refl; room = refl; in_force = refl }
 rest-changed s seat _ _ (chooses session pool x found may other) = record { journal = refl; clock = refl; room = refl; in_force = refl }
 rest-changed s seat _ _ (submits session floor x found may) = record { journal = refl; clock = refl; room = refl; in_force = refl }

@@ -18,7 +18,7 @@ use Rattle.rm_rules.specs.Holdings.{Holdings, holding, holdings, holdings_of, re
 use Rattle.rm_rules.specs.Accounting.{held_in, free, need, kept_back}
 use Rattle.rm_rules.specs.Admission.{admitted, started, first_entitled}
 use Rattle.rm_rules.specs.Shuffle.{shuffled, shuffled_state}
-use Rattle.rm_rules.specs.Acceptance.{accepted, is_judged}
+use Rattle.rm_rules.specs.Acceptance.{accepted}
 use Rattle.rm_rules.specs.Change.{defined}
 use Rattle.rm_rules.specs.Sound.{IsSound}
 use Rattle.rm_rules.specs.Healthy.{AreSized, AreThere, AreWithinMemory, AreCovered}
@@ -30,7 +30,7 @@ use Rattle.rm_rules.proofs.There.{waiting-there}
 use Rattle.rm_rules.proofs.Conserved.{granted-within}
 use Rattle.rm_rules.proofs.Shuffling.{covered-shuffle, force-shuffle, shuffle-names, shuffled-bytes}
 use Rattle.rm_rules.proofs.AcceptanceLaws.{accepted-counted}
-use Rattle.rm_rules.proofs.Defining.{accepted-names, places, there-after}
+use Rattle.rm_rules.proofs.Defining.{drops_none, accepted-names, places, there-after}
 
 -- one grant more, for which enough is free, leaves the bytes covered
 covered-push : (d : Definitions) (h : Holdings) (g : Holding) → AreNamed (with_grant h g) → AreCovered d h → need h g.pool g.bytes ≤ free h
@@ -116,17 +116,17 @@ held-finished s n r found sound sized there held =
 
 -- what a statement leaves
 pub record IsDefined (s : State) (d : Definitions) : Type 0 where
-  pub sized : AreSized d (defined s d).state.actual (defined s d).state.counters
+  pub sized : AreSized d (defined s d).actual (defined s d).counters
   pub there : AreThere d s.sessions s.waiting s.running
-  pub held : AreWithinMemory d (holdings_of (defined s d).state)
+  pub held : AreWithinMemory d (holdings_of (defined s d))
 
-pub held-defined : (s : State) (statement : Statement) (d : Definitions) → is_judged statement ≡ true → accepted s.definitions statement ≡ Ok d
+pub held-defined : (s : State) (statement : Statement) (d : Definitions) → drops_none statement ≡ true → accepted s.definitions statement ≡ Ok d
     → IsSound s.definitions → IsSound d → AreSized s.definitions s.actual s.counters → AreThere s.definitions s.sessions s.waiting s.running
     → AreWithinMemory s.definitions (holdings_of s) → IsDefined s d
-held-defined s statement d judged is sound new sized there held =
-    let after = accepted-names s.definitions statement d is in
+held-defined s statement d none is sound new sized there held =
+    let after = accepted-names s.definitions statement d none is in
     let p = places s d after sound sized there in
-    let same : d.memory ≡ s.definitions.memory = (accepted-counted s.definitions statement d judged is).memory in
+    let same : d.memory ≡ s.definitions.memory = (accepted-counted s.definitions statement d is).memory in
     record {
       sized = p.sized;
       there = there-after s.definitions d s.sessions s.waiting s.running after there;

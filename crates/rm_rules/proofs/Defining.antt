@@ -54,28 +54,44 @@ grant-turn d g false = keeps_names refl
 grant-names : (d : Definitions) (g : GrantRow) → NamesAfter d (with_grant d g)
 grant-names d g = grant-turn d g (has_grant d.grants g)
 
-left-names : (d : Definitions) (statement : Statement) → NamesAfter d (left_by d statement)
-left-names d (CreatePool name c) = row-names d (created_pool d name c)
-left-names d (AlterPool name c) = row-names d (altered_pool d name c)
-left-names d (DropPool name) = keeps_names refl
-left-names d (CreateUser name c) = keeps_names refl
-left-names d (AlterUser name c) = keeps_names refl
-left-names d (DropUser name) = keeps_names refl
-left-names d (CreateRole name) = keeps_names refl
-left-names d (AlterRole name pool) = keeps_names refl
-left-names d (DropRole name) = keeps_names refl
-left-names d (GrantUsage pool grantee) = grant-names d (usage_grant d pool grantee)
-left-names d (RevokeUsage pool grantee) = keeps_names refl
-left-names d (GrantRole role user) = grant-names d (RoleToUser role user)
-left-names d (RevokeRole role user) = keeps_names refl
+-- the statement drops no pool
+abbrev pub drops_none : Statement → Bool
+drops_none (CreatePool name c) = true
+drops_none (AlterPool name c) = true
+drops_none (DropPool name) = false
+drops_none (CreateUser name c) = true
+drops_none (AlterUser name c) = true
+drops_none (DropUser name) = true
+drops_none (CreateRole name) = true
+drops_none (AlterRole name pool) = true
+drops_none (DropRole name) = true
+drops_none (GrantUsage pool grantee) = true
+drops_none (RevokeUsage pool grantee) = true
+drops_none (GrantRole role user) = true
+drops_none (RevokeRole role user) = true
+
+left-names : (d : Definitions) (statement : Statement) → drops_none statement ≡ true → NamesAfter d (left_by d statement)
+left-names d (CreatePool name c) none = row-names d (created_pool d name c)
+left-names d (AlterPool name c) none = row-names d (altered_pool d name c)
+left-names d (DropPool name) none = absurd (false≢true none)
+left-names d (CreateUser name c) none = keeps_names refl
+left-names d (AlterUser name c) none = keeps_names refl
+left-names d (DropUser name) none = keeps_names refl
+left-names d (CreateRole name) none = keeps_names refl
+left-names d (AlterRole name pool) none = keeps_names refl
+left-names d (DropRole name) none = keeps_names refl
+left-names d (GrantUsage pool grantee) none = grant-names d (usage_grant d pool grantee)
+left-names d (RevokeUsage pool grantee) none = keeps_names refl
+left-names d (GrantRole role user) none = grant-names d (RoleToUser role user)
+left-names d (RevokeRole role user) none = keeps_names refl
 
 counted-names : (d new : Definitions) → NamesAfter d new → NamesAfter d (counted new)
 counted-names d new (keeps_names same) = keeps_names same
 counted-names d new (adds_name row absent last) = adds_name row absent last
 
-pub accepted-names : (d : Definitions) (statement : Statement) (new : Definitions) → accepted d statement ≡ Ok new → NamesAfter d new
-accepted-names d statement new h =
-    subst (NamesAfter d) (accepted-left d statement new h).1 (counted-names d (left_by d statement) (left-names d statement))
+pub accepted-names : (d : Definitions) (statement : Statement) (new : Definitions) → drops_none statement ≡ true → accepted d statement ≡ Ok new → NamesAfter d new
+accepted-names d statement new none h =
+    subst (NamesAfter d) (accepted-left d statement new h).1 (counted-names d (left_by d statement) (left-names d statement none))
 
 -- reserves hang on names and sizes alone
 reserves-named : (rows others : List PoolRow) (ns : List ℕ) → names rows ≡ names others → reserves_of rows ns ≡ reserves_of others ns
@@ -143,9 +159,9 @@ place-more old new x xs e =
 
 -- the sizes, counts and reserves that a statement leaves
 pub record HasPlaces (s : State) (d : Definitions) : Type 0 where
-  pub sized : AreSized d (defined s d).state.actual (defined s d).state.counters
-  pub kept : kept_back (holdings_of (defined s d).state).reserves ≡ kept_back (holdings_of s).reserves
-  pub debts : sum_by (debt (holdings s.running)) (holdings_of (defined s d).state).reserves ≡ sum_by (debt (holdings s.running)) (holdings_of s).reserves
+  pub sized : AreSized d (defined s d).actual (defined s d).counters
+  pub kept : kept_back (holdings_of (defined s d)).reserves ≡ kept_back (holdings_of s).reserves
+  pub debts : sum_by (debt (holdings s.running)) (holdings_of (defined s d)).reserves ≡ sum_by (debt (holdings s.running)) (holdings_of s).reserves
 
 pub names-length : (pools : List PoolRow) → length (names pools) ≡ length pools
 names-length pools = length-map pools (λ (r : PoolRow). r.name)
@@ -156,7 +172,7 @@ places-kept s new sized same =
     let many : length new.pools ≡ length d.pools = omega (arith, names-length new.pools, names-length d.pools, ap (λ (ns : List Name). length ns) same) in
     let size = place-same d new 0 s.actual many in
     let counter = place-same d new none_ended s.counters many in
-    let stays : (holdings_of (defined s new).state).reserves ≡ (holdings_of s).reserves =
+    let stays : (holdings_of (defined s new)).reserves ≡ (holdings_of s).reserves =
     ap (reserves_of (user_pools new.pools)) size ∙ reserves-named (user_pools new.pools) (user_pools d.pools) s.actual (user_named new.pools d.pools same) in
     record {
       sized = record {
@@ -179,7 +195,7 @@ places-added s new row sound sized there absent last =
     let unused = used-absent d row.name s.running absent there.runs in
     let old = (holdings_of s).reserves in
     let reserve : Reserve = record { pool = row.name; size = 0 } in
-    let more : (holdings_of (defined s new).state).reserves ≡ old ++ reserve ∷ [] =
+    let more : (holdings_of (defined s new)).reserves ≡ old ++ reserve ∷ [] =
     ap (reserves_of (user_pools new.pools)) size ∙ ap (λ rows. reserves_of rows (s.actual ++ 0 ∷ [])) users ∙ reserves-push (user_pools pools) s.actual row sized.sizes in
     record {
       sized = record {

@@ -11,7 +11,7 @@ use Rattle.rm_rules.specs.Replay.{IsFormed}
 use Rattle.rm_rules.specs.Healthy.{IsUnsettled, IsHealthy}
 use Rattle.rm_rules.specs.Grants.{RaisesForce}
 use Rattle.rm_rules.proofs.Settling.{due-keeps, rest-settled, rest-due, force-settled}
-use Rattle.rm_rules.proofs.Changing.{IsTried, stays, changes, IsChange, defines, opens, chooses, caps, submits, collects, moves_on, asks, gives_way, finishes, withdraws, stops, closes, tried-is}
+use Rattle.rm_rules.proofs.Changing.{IsTried, stays, changes, IsChange, defines, drops, opens, chooses, caps, submits, collects, moves_on, asks, gives_way, finishes, withdraws, stops, closes, tried-is}
 use Rattle.rm_rules.proofs.Answering.{beside-answered}
 use Rattle.rm_rules.proofs.Stepping.{unsettled-tried, outcome-turn}
 
@@ -31,7 +31,7 @@ force-least s t (Close session) least = least
 -- the definitions are those before the event, but for a statement
 force-changed : (s t : State) (seat : ℕ) (event : Event) (c : Change) → IsChange t seat event c → t.definitions ≡ s.definitions → t.in_force ≡ s.in_force
     → (settled c.state).in_force ≤ max (total c.state.definitions) c.state.in_force → total s.definitions ≤ s.in_force → RaisesForce s (settled c.state) event
-force-changed s t seat _ _ (defines statement new accepts) same force most least =
+force-changed s t seat _ _ (defines statement new none accepts) same force most least =
     λ rises. let left = rest-settled (defined t new).state in omega (arith, rises, most, force, least, ap total left.definitions)
 force-changed s t seat _ _ (opens user may) same force most least = omega (arith, most, force, least, ap total same)
 force-changed s t seat _ _ (chooses session pool x found may other) same force most least = omega (arith, most, force, least, ap total same)

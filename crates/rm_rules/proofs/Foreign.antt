@@ -30,7 +30,7 @@ use Rattle.rm_rules.proofs.Queue.{IsAmong, found_among}
 use Rattle.rm_rules.proofs.Admitting.{session-waits, in_phase-admitted}
 use Rattle.rm_rules.proofs.Ending.{in_phase-ended}
 use Rattle.rm_rules.proofs.Settling.{entitled-among, due-keeps, settled-keeps}
-use Rattle.rm_rules.proofs.Changing.{IsTried, stays, changes, IsQuiet, refuses, repeats, caps_again, judges, stops_again, tells, IsChange, defines, opens, chooses, caps, submits, collects, moves_on, asks, gives_way, finishes, withdraws, stops, closes, session_of-is, tried-is}
+use Rattle.rm_rules.proofs.Changing.{IsTried, stays, changes, IsQuiet, refuses, repeats, caps_again, judges, stops_again, tells, IsChange, defines, drops, opens, chooses, caps, submits, collects, moves_on, asks, gives_way, finishes, withdraws, stops, closes, session_of-is, tried-is}
 use Rattle.rm_rules.proofs.Stepping.{unsettled-tried, outcome-turn}
 
 pub settles-then : (p q r : Phase) → Settles p q → Settles q r → Settles p r
@@ -161,7 +161,7 @@ runner-apart s seat event n session x z r other for found runs =
 
 left-changed : (s : State) (seat : ℕ) (event : Event) (c : Change) (n : ℕ) (x : Session) → IsChange s seat event c → AreInPhase s.sessions s.waiting s.running
     → apart s seat event n x → IsLeftAt n x s.sessions → IsLeftAt n x c.state.sessions
-left-changed s seat _ _ n x (defines statement new accepts) in_phase other h = h
+left-changed s seat _ _ n x (defines statement new none accepts) in_phase other h = h
 left-changed s seat _ _ n x (opens user may) in_phase other h = record { session = h.session; called = push-turn n h.session _ s.sessions h.called; left = h.left }
 left-changed s seat _ _ n x (chooses session pool z found may differs) in_phase other h = record {
   session = h.session;
@@ -216,7 +216,7 @@ quiet-answered s t seat _ _ n x (tells session z found active) h = h
 
 change-answered : (s t : State) (seat : ℕ) (event : Event) (c : Change) (n : ℕ) (x : Session) → IsChange s seat event c → apart s seat event n x → IsLeftAt n x t.sessions
     → IsLeftAt n x (answered t c.answer).sessions
-change-answered s t seat _ _ n x (defines statement new accepts) other h = h
+change-answered s t seat _ _ n x (defines statement new none accepts) other h = h
 change-answered s t seat _ _ n x (opens user may) other h = h
 change-answered s t seat _ _ n x (chooses session pool z found may differs) other h = h
 change-answered s t seat _ _ n x (caps session cap z found room differs) other h = h

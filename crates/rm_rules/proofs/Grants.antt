@@ -29,7 +29,7 @@ use Rattle.rm_rules.proofs.Queue.{IsAmong, further, found_among}
 use Rattle.rm_rules.proofs.SettledLaws.{none_without}
 use Rattle.rm_rules.proofs.Settling.{entitled-among, due-keeps, settled-keeps, rest-settled}
 use Rattle.rm_rules.proofs.Within.{within-settled}
-use Rattle.rm_rules.proofs.Changing.{IsTried, stays, changes, IsQuiet, refuses, repeats, tells, IsChange, defines, opens, chooses, submits, collects, finishes, closes, choice_made, session_of-is, session_of-found, tried-is}
+use Rattle.rm_rules.proofs.Changing.{IsTried, stays, changes, IsQuiet, refuses, repeats, tells, IsChange, defines, drops, opens, chooses, submits, collects, finishes, closes, choice_made, session_of-is, session_of-found, tried-is}
 use Rattle.rm_rules.proofs.Phases.{one_if-most, phase_of-found}
 use Rattle.rm_rules.proofs.Keeping.{runner_found}
 use Rattle.rm_rules.proofs.Answering.{beside-answered}
@@ -258,7 +258,7 @@ frees-quiet s u seat _ _ (repeats session pool x found same) = frees-none s (Set
 frees-quiet s u seat _ _ (tells session x found active) = frees-none s (Poll session) (told u x.number) s refl (λ n grant is gives. absurd (cc)) refl (turned-same s s (Poll session) refl refl)
 
 frees-change : (s u : State) (seat : ℕ) (event : Event) (c : Change) → IsChange s seat event c → IsHealthy s → Frees s event (reply_of u c.answer) c.state
-frees-change s u seat _ _ (defines statement new accepts) h = frees-none s (Define statement) reply.Defined (defined s new).state refl (λ n grant is gives. absurd (cc)) refl (turned-same s (defined s new).state (Define statement) refl refl)
+frees-change s u seat _ _ (defines statement new none accepts) h = frees-none s (Define statement) reply.Defined (defined s new).state refl (λ n grant is gives. absurd (cc)) refl (turned-same s (defined s new).state (Define statement) refl refl)
 frees-change s u seat _ _ (opens user may) h =
     frees-none s (Open user) (reply.Opened (s.last_session + 1)) (opened s seat user).state refl (λ n grant is gives. absurd (cc)) refl (turned-same s (opened s seat user).state (Open user) refl refl)
 frees-change s u seat _ _ (chooses session pool x found may differs) h =

@@ -34,6 +34,7 @@ use Rattle.rm_rules.proofs.Refused.{not_below}
 use Rattle.rm_rules.proofs.AcceptanceLaws.{accepted-sound, accepted-counted}
 use Rattle.rm_rules.proofs.Phases.{has_number, choosing_pool, capped, KeepsQuery, phase_of-found, count-with, phase_of-kept, count-kept, opened-kept, opened-with, phase_of-push, count-push, there_if_live, live-counts, live-most, length-with}
 use Rattle.rm_rules.proofs.Moving.{Goes, in_phase-goes, there-goes, numbered-goes, owed-goes, room-owed}
+use Rattle.rm_rules.proofs.Defining.{drops_none}
 use Rattle.rm_rules.proofs.Covering.{held-finished, held-defined}
 use Rattle.rm_rules.proofs.Timed.{is_within, timed-goes}
 use Rattle.rm_rules.proofs.Changing.{MayOpen, MayChoose, MaySubmit, choice_made, cap_made}
@@ -84,12 +85,12 @@ room-left : (s : State) (live sessions owes : ℕ) → is_journal_full s live se
 room-left s live sessions owes not_full within few = omega (arith, not_below _ _ not_full)
 
 -- Define
-pub unsettled-defined : (s : State) (statement : Statement) (new : Definitions) → IsFormed (Define statement) → IsHealthyWith 0 0 s → accepted s.definitions statement ≡ Ok new
-    → IsUnsettledWith 0 1 (defined s new).state
-unsettled-defined s statement new formed h accepts =
-    let counted = accepted-counted s.definitions statement new formed.0 accepts in
-    let sound = accepted-sound s.definitions statement new h.sound (well_formed-in_range statement formed.1) formed.0 accepts in
-    let left = held-defined s statement new formed.0 accepts h.sound sound h.sized h.there h.covered.held in
+pub unsettled-defined : (s : State) (statement : Statement) (new : Definitions) → IsFormed (Define statement) → IsHealthyWith 0 0 s → drops_none statement ≡ true
+    → accepted s.definitions statement ≡ Ok new → IsUnsettledWith 0 1 (defined s new)
+unsettled-defined s statement new formed h none accepts =
+    let counted = accepted-counted s.definitions statement new accepts in
+    let sound = accepted-sound s.definitions statement new h.sound (well_formed-in_range statement formed) accepts in
+    let left = held-defined s statement new none accepts h.sound sound h.sized h.there h.covered.held in
     record {
       sound = sound;
       sized = left.sized;

@@ -14,6 +14,7 @@ pub mod PoolLaws
 pub mod GrantLaws
 pub mod Unsettled
 pub mod UserLaws
+pub mod DropLaws
 pub mod AcceptanceLaws
 pub mod NewUsers
 pub mod Bytes

@@ -36,7 +36,7 @@ use Rattle.rm_rules.proofs.Phases.{has_number, phased, choosing_pool, capped, ca
 use Rattle.rm_rules.proofs.Queue.{IsAmong}
 use Rattle.rm_rules.proofs.Admitting.{waiter_found}
 use Rattle.rm_rules.proofs.Settling.{repeated-keeps, due-among, due-keeps, settled-keeps, rest-settled, rest-due}
-use Rattle.rm_rules.proofs.Changing.{IsTried, stays, changes, IsChange, defines, opens, chooses, caps, submits, collects, moves_on, asks, gives_way, finishes, withdraws, stops, closes, choice_made, cap_made, session_of-found, tried-is, rest-changed}
+use Rattle.rm_rules.proofs.Changing.{IsTried, stays, changes, IsChange, defines, drops, opens, chooses, caps, submits, collects, moves_on, asks, gives_way, finishes, withdraws, stops, closes, choice_made, cap_made, session_of-found, tried-is, rest-changed}
 use Rattle.rm_rules.proofs.Unsettled.{unsettled-changed}
 use Rattle.rm_rules.proofs.Keeping.{running-just}
 use Rattle.rm_rules.proofs.Answering.{beside-answered}
@@ -116,7 +116,7 @@ runner-own s n r found = ap (runner_of s.running) (eqb-true r.session n (found_p
 -- what an event that says so changes is more than the clock, also once its answer is given
 loud-change : (s : State) (seat clock : ℕ) (event : Event) (c : Change) → IsFormed event → IsChange s seat event c → AreInPhase c.state.sessions c.state.waiting c.state.running
     → answered (settled c.state) c.answer ≡ at_clock clock s → ⊥
-loud-change s seat clock _ _ formed (defines statement new accepts) in_phase same =
+loud-change s seat clock _ _ formed (defines statement new none accepts) in_phase same =
     let counted = accepted-counted s.definitions statement new formed.0 accepts in
     let left = (rest-settled (defined s new).state).definitions in
     let changes : s.definitions.changes ≡ new.changes = ap (λ (u : State). u.definitions.changes) (sym same) ∙ ap (λ (d : Definitions). d.changes) left in
@@ -244,7 +244,7 @@ gone-due s w found h numbered = due-turn s w (length s.waiting) found (due-among
 -- and no change lets it wait again
 gone-changed : (s : State) (seat : ℕ) (event : Event) (c : Change) (n : ℕ) → IsChange s seat event c → n ≤ s.last_query → runs_count n s ≡ 0 → waiting_count n s ≡ 0
     → waiting_count n c.state ≡ 0
-gone-changed s seat _ _ n (defines statement new accepts) given ran none = none
+gone-changed s seat _ _ n (defines statement new none accepts) given ran none = none
 gone-changed s seat _ _ n (opens user may) given ran none = none
 gone-changed s seat _ _ n (chooses session pool x found may other) given ran none = none
 gone-changed s seat _ _ n (caps session cap x found room other) given ran none = none

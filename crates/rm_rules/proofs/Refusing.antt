@@ -25,7 +25,7 @@ use Rattle.rm_rules.proofs.Taken.{found_passes, found_counted, or_left_false, or
 use Rattle.rm_rules.proofs.Phases.{phased, called-with_same, phase_of-found}
 use Rattle.rm_rules.proofs.Settling.{rest-settled, rest-due}
 use Rattle.rm_rules.proofs.Verdicts.{IsCheckReply, says_go, says_way, says_end, says_stop}
-use Rattle.rm_rules.proofs.Changing.{IsTried, stays, changes, IsQuiet, refuses, repeats, caps_again, judges, stops_again, tells, IsChange, defines, opens, chooses, caps, submits, collects, moves_on, asks, gives_way, finishes, withdraws, stops, closes, session_of-found, tried-is}
+use Rattle.rm_rules.proofs.Changing.{IsTried, stays, changes, IsQuiet, refuses, repeats, caps_again, judges, stops_again, tells, IsChange, defines, drops, opens, chooses, caps, submits, collects, moves_on, asks, gives_way, finishes, withdraws, stops, closes, session_of-found, tried-is}
 use Rattle.rm_rules.proofs.Foreign.{settles-live, left-self, left-settled}
 use Rattle.rm_rules.proofs.Stepping.{or-false, found-facts, unsettled-tried, outcome-turn}
 
@@ -104,7 +104,7 @@ called-waiting : (s : State) (x : Session) → session_called s.sessions x.numbe
 called-waiting s x found = called-with_same x.number phase.Waiting s.sessions ∙ ap (option_map (phased phase.Waiting)) found
 
 refused-change : (s u : State) (seat : ℕ) (event : Event) (r : Refusal) (c : Change) → IsChange s seat event c → TellsLive c.state u → reply_of u c.answer ≡ reply.Refused r → ⊥
-refused-change s u seat _ r _ (defines statement new accepts) told_live e = cc
+refused-change s u seat _ r _ (defines statement new none accepts) told_live e = cc
 refused-change s u seat _ r _ (opens user may) told_live e = cc
 refused-change s u seat _ r _ (chooses session pool x found may differs) told_live e = cc
 refused-change s u seat _ r _ (caps session cap x found room differs) told_live e = cc

@@ -34,7 +34,7 @@ use Rattle.rm_rules.proofs.Changed.{found-changed, other-changed}
 use Rattle.rm_rules.proofs.Phases.{has_number, phased, choosing_pool, phase_in, differ, one_if-most, phase_of-found}
 use Rattle.rm_rules.proofs.Admitting.{one_or_none}
 use Rattle.rm_rules.proofs.Settling.{due-keeps, settled-keeps, rest-due}
-use Rattle.rm_rules.proofs.Changing.{IsTried, stays, changes, refuses, repeats, tells, IsChange, defines, opens, chooses, submits, collects, finishes, closes, session_of-is, session_of-found, tried-is}
+use Rattle.rm_rules.proofs.Changing.{IsTried, stays, changes, refuses, repeats, tells, IsChange, defines, drops, opens, chooses, submits, collects, finishes, closes, session_of-is, session_of-found, tried-is}
 use Rattle.rm_rules.proofs.Stepping.{found-facts, none-found, outcome-turn}
 use Rattle.rm_rules.proofs.Laws.{healthy-step, others-keep}
 use Rattle.rm_rules.proofs.Loud.{next-differs}
@@ -108,7 +108,7 @@ owned-answered s (Collects session) n seat h = turn (is_ended (phase_of s.sessio
 
 owned-changed : (s : State) (by : ℕ) (event : Event) (c : Change) (n seat : ℕ) → IsChange s by event c → AreOpened s.last_session s.sessions → n ≤ s.last_session
     → IsOwned n seat s.sessions → IsOwned n seat c.state.sessions
-owned-changed s by _ _ n seat (defines statement new accepts) opened given h = h
+owned-changed s by _ _ n seat (defines statement new none accepts) opened given h = h
 owned-changed s by _ _ n seat (opens user may) opened given h = owned-push n seat (new_session s by user) s.sessions (next-differs s.last_session n given) h
 owned-changed s by _ _ n seat (chooses session pool x found may other) opened given h = owned-choice n x.number seat pool s.sessions h
 owned-changed s by _ _ n seat (submits session floor x found may) opened given h = owned-with n x.number seat phase.Waiting s.sessions h
@@ -386,7 +386,7 @@ entered-told t seat session query grant own borrowed pool _ _ (stays _ (tells n 
     let number : x.number ≡ session = (session_of-is t seat n x found).number ∙ (let same : n ≡ session = cc in same) in
     subst (λ k. run_of (settled t) seat k ≡ Some (record { query = query; grant = grant })) number
     (run-told (settled t) x.number seat query grant (told-run (settled t) x.number query grant own borrowed pool e) (owned-settled t x.number seat (owned-self t seat n x found)))
-entered-told t seat session query grant own borrowed pool _ _ (changes _ (defines statement new accepts) loud) of e = absurd (cc)
+entered-told t seat session query grant own borrowed pool _ _ (changes _ (defines statement new none accepts) loud) of e = absurd (cc)
 entered-told t seat session query grant own borrowed pool _ _ (changes _ (opens user may) loud) of e = absurd (cc)
 entered-told t seat session query grant own borrowed pool _ _ (changes _ (chooses n p x found may other) loud) of e = absurd (cc)
 entered-told t seat session query grant own borrowed pool _ _ (changes _ (submits n floor x found may) loud) of e =

@@ -48,7 +48,7 @@ use Rattle.rm_rules.proofs.Closing.{unsettled-closed}
 use Rattle.rm_rules.proofs.Timed.{within, is_within, timed-goes, IsTimed, runner-timed}
 use Rattle.rm_rules.proofs.Chains.{target-there, target-moves}
 use Rattle.rm_rules.proofs.Verdicts.{verdict-target, verdict-free}
-use Rattle.rm_rules.proofs.Changing.{IsChange, defines, opens, chooses, caps, submits, collects, moves_on, asks, gives_way, finishes, withdraws, stops, closes, IsChecked, session_of-found}
+use Rattle.rm_rules.proofs.Changing.{IsChange, defines, drops, opens, chooses, caps, submits, collects, moves_on, asks, gives_way, finishes, withdraws, stops, closes, IsChecked, session_of-found}
 use Rattle.rm_rules.proofs.Keeping.{unsettled-defined, unsettled-opened, unsettled-chosen, unsettled-capped, unsettled-submitted, unsettled-collected, running-just, unsettled-finished}
 
 -- the facts of a state in which nothing waits to be settled hold of it as of one in which something does
@@ -316,7 +316,8 @@ moves-left s seat session x r pool is = target-moves s.definitions r.pool (runni
 -- what holds of every change, before it settles
 pub unsettled-changed : (s : State) (seat : ℕ) (event : Event) (c : Change) → IsFormed event → IsHealthyWith 0 0 s → IsChange s seat event c
     → IsUnsettledWith (counted_for c.answer) (defining_for c.answer) c.state
-unsettled-changed s seat _ _ formed h (defines statement new accepts) = unsettled-defined s statement new formed h accepts
+unsettled-changed s seat _ _ formed h (defines statement new none accepts) = unsettled-defined s statement new formed h none accepts
+unsettled-changed s seat _ _ formed h (drops pool new accepts) = unsettled-dropped s pool new formed h accepts
 unsettled-changed s seat _ _ formed h (opens user may) = unsettled-opened s seat user h may
 unsettled-changed s seat _ _ formed h (chooses session pool x found may other) = unsettled-chosen s x pool h may
 unsettled-changed s seat _ _ formed h (caps session cap x found not_full other) = unsettled-capped s x (within_moments cap) h not_full

@@ -8,6 +8,7 @@ use Rattle.rm_base.specs.declared.name.Name.{Name}
 use Rattle.rm_base.specs.declared.reply.End.{End}
 use Rattle.rm_base.specs.declared.reply.End.TheVariants as end
 use Rattle.rm_base.specs.declared.statement.Statement.{Statement}
+use Rattle.rm_base.specs.declared.statement.Statement.TheVariants.{CreatePool, AlterPool, DropPool, CreateUser, AlterUser, DropUser, CreateRole, AlterRole, DropRole, GrantUsage, RevokeUsage, GrantRole, RevokeRole}
 use Rattle.rm_base.specs.Name.{same_name}
 use Rattle.rm_base.specs.declared.refusal.Refusal.{Refusal}
 use Rattle.rm_base.specs.declared.refusal.Refusal.TheVariants as refusal
@@ -28,6 +29,7 @@ use Rattle.rm_rules.specs.Ask.{is_too_large, too_large}
 use Rattle.rm_rules.specs.State.{State, none_ended, with_choice, with_cap, session_called, session_of, session_pool, waiter_of, runner_of, with_phase, without_session, without_waiter, without_runner, is_idle, is_running, live_queries, counted_entries}
 use Rattle.rm_rules.specs.Deadlines.{ended_as}
 use Rattle.rm_rules.specs.Target.{running_time, verdict}
+use Rattle.rm_rules.specs.DropPool.{dropped}
 use Rattle.rm_rules.specs.Moving.{takes, moved_on, asked_to_leave, gave_way, asked_to_stop}
 
 -- what an accepted event does: the state that it makes, its answer, and whether it changes anything
@@ -88,20 +90,36 @@ abbrev pub with_place : {A : Type 0} → Definitions → Definitions → A → L
 with_place old new x xs = if nat_lt (length old.pools) (length new.pools) then xs ++ x ∷ [] else xs
 
 -- new definitions: a new pool has no bytes yet, and no query of it has ended
-abbrev pub defined : State → Definitions → Change
-defined s d = changing (record s {
+abbrev pub defined : State → Definitions → State
+defined s d = record s {
   definitions = d;
   actual = with_place s.definitions d 0 s.actual;
   counters = with_place s.definitions d none_ended s.counters;
-}) (Says reply.Defined)
+}
+
+-- the state that an accepted statement leaves, by the definitions that it leaves
+abbrev pub defined_by : State → Statement → Definitions → State
+defined_by s (CreatePool name change) d = defined s d
+defined_by s (AlterPool name change) d = defined s d
+defined_by s (DropPool name) d = dropped s name d
+defined_by s (CreateUser name change) d = defined s d
+defined_by s (AlterUser name change) d = defined s d
+defined_by s (DropUser name) d = defined s d
+defined_by s (CreateRole name) d = defined s d
+defined_by s (AlterRole name pool) d = defined s d
+defined_by s (DropRole name) d = defined s d
+defined_by s (GrantUsage pool grantee) d = defined s d
+defined_by s (RevokeUsage pool grantee) d = defined s d
+defined_by s (GrantRole role user) d = defined s d
+defined_by s (RevokeRole role user) d = defined s d
 
 -- Define: what the statement is refused with
-abbrev pub defining_to : State → Result Definitions Refusal → Result Change Refusal
-defining_to s (Err refusal) = Err refusal
-defining_to s (Ok d) = Ok (defined s d)
+abbrev pub defining_to : State → Statement → Result Definitions Refusal → Result Change Refusal
+defining_to s statement (Err refusal) = Err refusal
+defining_to s statement (Ok d) = Ok (changing (defined_by s statement d) (Says reply.Defined))
 
 abbrev pub defining : State → Statement → Result Change Refusal
-defining s statement = defining_to s (accepted s.definitions statement)
+defining s statement = defining_to s statement (accepted s.definitions statement)
 
 -- a new session of this user, opened by this seat
 abbrev pub new_session : State → ℕ → Name → Session

@@ -5,6 +5,7 @@ use Rattle.rm_base.specs.declared.entry.Entry.{Entry}
 use Rattle.rm_base.specs.declared.event.Event.{Event}
 use Rattle.rm_base.specs.declared.event.Event.TheVariants.{Define, Open, SetPool, SetCap, Submit, Poll, Check, GiveWay, Finish, Cancel, Close}
 use Rattle.rm_base.specs.declared.name.Name.{Name}
+use Rattle.rm_base.specs.declared.statement.Statement.TheVariants.{DropPool}
 use Rattle.rm_base.specs.declared.reply.Reply.{Reply}
 use Rattle.rm_base.specs.declared.reply.Reply.TheVariants as reply
 use Rattle.rm_rules.specs.declared.state.Session.{Session}
@@ -17,6 +18,7 @@ use Rattle.rm_rules.specs.State.{State, session_of, session_pool, without_runner
 use Rattle.rm_rules.specs.Holdings.{holdings}
 use Rattle.rm_rules.specs.Accounting.{used}
 use Rattle.rm_rules.specs.Conserved.{IsConserved}
+use Rattle.rm_rules.specs.DropPool.{as_generals, runner_beside}
 use Rattle.rm_rules.specs.Moving.{moved, leaving_for, requeued, stopping}
 use Rattle.rm_rules.specs.Step.{step}
 
@@ -152,12 +154,14 @@ abbrev pub still_running : State → Event → Reply → List Runner
 still_running s event answer = with_moved (moving_in event answer) (without_freed (freeing event answer) s.running)
 
 -- What a running query is, by the moment of an event with this reply that does not take its grant: it is what it was, or it
--- moved on as a check of its session replied, or it is to give way, or to stop. Its number and its grant stay.
+-- moved on as a check of its session replied, or it is to give way, or to stop, or its pool was dropped, and it is GENERAL's.
+-- Its number and its grant stay.
 pub data GoesOn (event : Event) (answer : Reply) (moment : ℕ) (r : Runner) : Runner → Type 0 where
   Stays : GoesOn event answer moment r r
   Moves : (pool : Name) → event ≡ Check r.session → answer ≡ reply.MovedOn pool → GoesOn event answer moment r (moved moment pool r)
   Leaves : (pool : Name) → event ≡ Check r.session → answer ≡ reply.GiveWay pool → GoesOn event answer moment r (leaving_for pool r)
   Stops : (by : ℕ) → event ≡ Cancel by r.session → answer ≡ reply.Cancelled → GoesOn event answer moment r (stopping r)
+  Dropped : (pool : Name) → event ≡ Define (DropPool pool) → answer ≡ reply.Defined → GoesOn event answer moment r (runner_beside pool r)
 
 -- so do all of these, in their order
 pub data GoOn (event : Event) (answer : Reply) (moment : ℕ) : List Runner → List Runner → Type 0 where
@@ -189,8 +193,16 @@ pub record GaveWay (old : State) (event : Event) (moment : ℕ) (w : Waiter) : T
   pub is : w ≡ requeued moment w.pool runner
 
 -- the query waited, or this event submitted it, or let it give way
+-- the query waited in a pool that this event drops: it is GENERAL's now
+pub record WasDropped (old : State) (event : Event) (w : Waiter) : Type 0 where
+  pub waiter : Waiter
+  pub waited : waiter_called old.waiting w.query ≡ Some waiter
+  pub event_is : event ≡ Define (DropPool waiter.pool)
+  pub is : w ≡ as_generals waiter
+
 abbrev pub HasWaited : State → Event → ℕ → Waiter → Type 0
-HasWaited old event moment w = (waiter_called old.waiting w.query ≡ Some w) ⊎ (WasSubmitted old event w ⊎ GaveWay old event moment w)
+HasWaited old event moment w =
+    (waiter_called old.waiting w.query ≡ Some w) ⊎ (WasSubmitted old event w ⊎ (GaveWay old event moment w ⊎ WasDropped old event w))
 
 -- A query that begins to run is one that waited, as it begins to run now, with its ask by the definitions in force, and with
 -- it its pool's use is within the pool's cap.

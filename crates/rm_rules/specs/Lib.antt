@@ -16,6 +16,7 @@ pub mod Repeated
 pub mod Admission
 pub mod Shuffle
 pub mod Deadlines
+pub mod DropPool
 pub mod Settle
 pub mod Settled
 pub mod Change

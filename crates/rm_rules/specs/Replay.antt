@@ -5,7 +5,6 @@ use Rattle.rm_base.specs.declared.event.Event.{Event}
 use Rattle.rm_base.specs.declared.event.Event.TheVariants.{Define, Open, SetPool, SetCap, Submit, Poll, Check, GiveWay, Finish, Cancel, Close}
 use Rattle.rm_base.specs.WellFormed.{IsWellFormed}
 use Rattle.rm_rules.specs.State.{State}
-use Rattle.rm_rules.specs.Acceptance.{is_judged}
 use Rattle.rm_rules.specs.Step.{step, made}
 
 -- the state that these entries leave
@@ -13,9 +12,9 @@ abbrev pub replay : State → List Entry → State
 replay s [] = s
 replay s (e ∷ es) = replay (step s e.seat e.at e.event).state es
 
--- some text spells a statement, and it is one of those that are judged so far
+-- some text spells a statement
 abbrev pub IsFormed : Event → Type 0
-IsFormed (Define statement) = (is_judged statement ≡ true) × IsWellFormed statement
+IsFormed (Define statement) = IsWellFormed statement
 IsFormed (Open user) = Unit {0}
 IsFormed (SetPool session pool) = Unit {0}
 IsFormed (SetCap session cap) = Unit {0}

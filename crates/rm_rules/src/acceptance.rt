@@ -10,14 +10,13 @@ ghost use Rattle.rm_base.specs.Name.{same_name, general};
 ghost use Rattle.rm_base.specs.Ranges.{is_statement_in_range};
 ghost use Rattle.rm_rules.specs.Sound.{IsSound};
 ghost use Rattle.rm_rules.specs.UserStatements.{given_pool};
-ghost use Rattle.rm_rules.specs.Acceptance.{accepted, is_judged};
+ghost use Rattle.rm_rules.specs.Acceptance.{accepted};
 
 /// What is accepted leads from sound definitions to sound ones, so GENERAL still stands first.
 pub fn accepted_statements_keep_soundness()
     ensures { (d : Definitions) (statement : Statement) (new : Definitions)
         → IsSound d
         → IsTrue (is_statement_in_range statement)
-        → IsTrue (is_judged statement)
         → accepted d statement ≡ Ok new
         → IsSound new }
 {}
@@ -25,11 +24,9 @@ pub fn accepted_statements_keep_soundness()
 /// What is accepted is one change, also where it alters nothing, and the machine stays as it is.
 pub fn accepted_statements_are_counted()
     ensures changes { (d : Definitions) (statement : Statement) (new : Definitions)
-        → IsTrue (is_judged statement)
         → accepted d statement ≡ Ok new
         → new.changes ≡ d.changes + 1 }
     ensures machine { (d : Definitions) (statement : Statement) (new : Definitions)
-        → IsTrue (is_judged statement)
         → accepted d statement ≡ Ok new
         → (new.memory ≡ d.memory) × (new.cores ≡ d.cores) }
 {}
