@@ -15,6 +15,8 @@ pub mod GrantLaws
 pub mod Unsettled
 pub mod UserLaws
 pub mod DropLaws
+pub mod Folding
+pub mod Dropping
 pub mod AcceptanceLaws
 pub mod NewUsers
 pub mod Bytes

@@ -1,5 +1,5 @@
 -- What every event's change keeps, before the state settles.
-use Rattle.std.proofs.Common.{◌≡◌, ℕ, ◌+◌, ◌-◌, ◌≤◌, ◌<◌, Bool, true, false, ◌&&◌, ◌||◌, not, cond, eqb, leb, ltb, List, [], ◌∷◌, ◌++◌, Some, None, Option, refl, sym, ap, ◌∙◌, subst, arith, map, count_by}
+use Rattle.std.proofs.Common.{◌≡◌, ℕ, ◌+◌, ◌-◌, ◌≤◌, ◌<◌, Bool, true, false, ◌&&◌, ◌||◌, not, cond, eqb, leb, ltb, List, [], ◌∷◌, ◌++◌, Some, None, Option, Ok, refl, sym, ap, ◌∙◌, subst, arith, map, count_by}
 use Rattle.std.specs.Option.{is_some}
 use Rattle.std.specs.List.{find, list_all, list_any}
 use Rattle.std.proofs.lemmas.List.{map_push}
@@ -7,11 +7,17 @@ use Rattle.std.proofs.lemmas.Bool.{eqb-true, eq-eqb, false≢true}
 use Rattle.std.proofs.lemmas.Bool.Decides.{nat_tests}
 use Rattle.rm_base.specs.declared.entry.MoveSeen.{MoveSeen}
 use Rattle.rm_base.specs.declared.limits.TheConstants.{MOVES_MOST}
+use Rattle.rm_base.specs.declared.definitions.Definitions.{Definitions}
 use Rattle.rm_base.specs.declared.event.Event.{Event}
+use Rattle.rm_base.specs.declared.event.Event.TheVariants.{Define}
+use Rattle.rm_base.specs.declared.statement.Statement.TheVariants.{DropPool}
+use Rattle.rm_base.specs.declared.refusal.Refusal.{Refusal}
 use Rattle.rm_base.specs.declared.name.Name.{Name}
 use Rattle.rm_base.specs.declared.reply.End.TheVariants as end
 use Rattle.rm_base.specs.Name.{same_name, general}
 use Rattle.rm_base.specs.Ranges.{passes_if_set}
+use Rattle.rm_base.proofs.Names.{same_name-sym}
+use Rattle.rm_base.proofs.WellFormed.{well_formed-in_range}
 use Rattle.rm_rules.specs.declared.state.Phase.{Phase}
 use Rattle.rm_rules.specs.declared.state.Phase.TheVariants as phase
 use Rattle.rm_rules.specs.declared.state.Holding.{Holding}
@@ -30,7 +36,10 @@ use Rattle.rm_rules.specs.Moving.{holdings_without, allows_grant, takes, moved, 
 use Rattle.rm_rules.specs.Change.{Change, within_moments, withdrawn}
 use Rattle.rm_rules.specs.Deadlines.{ended_as}
 use Rattle.rm_rules.specs.Replay.{IsFormed}
-use Rattle.rm_rules.specs.Sound.{has_pool}
+use Rattle.rm_rules.specs.Acceptance.{counted, accepted}
+use Rattle.rm_rules.specs.Refusals.{pool_missing, changes_full}
+use Rattle.rm_rules.specs.DropPool.{without_pool, pool_built_in, pool_needed, drop_pool_refusal, goes_before, dropped}
+use Rattle.rm_rules.specs.Sound.{IsSound, has_pool}
 use Rattle.rm_rules.specs.Owed.{owed, entries_moving, entries_waiting, entries_running}
 use Rattle.rm_rules.specs.Healthy.{AreInPhase, AreThere, AreWithinMemory, IsHealthyWith, IsUnsettledWith, began_by, was_asked, counted_for, defining_for, one_if}
 use Rattle.rm_rules.proofs.Taken.{and_left, and_both, all_push, all_without, all_found, found_passes, counted_among}
@@ -46,8 +55,12 @@ use Rattle.rm_rules.proofs.Admitting.{one_or_none}
 use Rattle.rm_rules.proofs.Ending.{healthy-ended-more}
 use Rattle.rm_rules.proofs.Closing.{unsettled-closed}
 use Rattle.rm_rules.proofs.Timed.{within, is_within, timed-goes, IsTimed, runner-timed}
+use Rattle.rm_rules.proofs.Known.{general-there}
 use Rattle.rm_rules.proofs.Chains.{target-there, target-moves}
 use Rattle.rm_rules.proofs.Verdicts.{verdict-target, verdict-free}
+use Rattle.rm_rules.proofs.Refused.{first-none, not-refused, not-missing}
+use Rattle.rm_rules.proofs.AcceptanceLaws.{accepted-left, accepted-sound}
+use Rattle.rm_rules.proofs.Dropping.{sized-dropped, there-dropped, bytes-dropped, held-dropped, in_phase-dropped, opened-dropped, numbered-dropped, timed-dropped, owed-dropped}
 use Rattle.rm_rules.proofs.Changing.{IsChange, defines, drops, opens, chooses, caps, submits, collects, moves_on, asks, gives_way, finishes, withdraws, stops, closes, IsChecked, session_of-found}
 use Rattle.rm_rules.proofs.Keeping.{unsettled-defined, unsettled-opened, unsettled-chosen, unsettled-capped, unsettled-submitted, unsettled-collected, running-just, unsettled-finished}
 
@@ -300,6 +313,48 @@ unsettled-gave_way s r pool h found leaves =
 -- a waiting query that is cancelled ends
 unsettled-withdrawn : (s : State) (w : Waiter) → IsHealthyWith 0 0 s → IsAmong w s.waiting → IsUnsettledWith 1 0 (withdrawn s w).state
 unsettled-withdrawn s w h among = to_unsettled 1 0 (ended_as end.Cancelled s w) (healthy-ended-more 0 0 end.Cancelled s w among h)
+
+-- a pool that is dropped is there, and is not GENERAL
+drop-free : (d : Definitions) (pool : Name) → (let o : Option Refusal = None in drop_pool_refusal d pool ≡ o) → (has_pool d pool ≡ true) × (same_name pool general ≡ false)
+drop-free d pool h =
+    let more = pool_needed d.pools pool ∷ changes_full d ∷ [] in
+    let first = first-none (pool_missing d pool) (pool_built_in pool ∷ more) h in
+    let second = first-none (pool_built_in pool) more first.1 in
+    (not-missing (has_pool d pool) _ first.0, not-refused (same_name pool general) _ second.0)
+
+-- the pool is dropped: its bytes are GENERAL's, and so are its queries
+dropped-counted : (s : State) (pool : Name) → IsHealthyWith 0 0 s → has_pool s.definitions pool ≡ true → same_name pool general ≡ false
+    → (let new = counted (without_pool s.definitions pool) in IsSound new → IsUnsettledWith 0 1 (dropped s pool new))
+dropped-counted s pool h known user sound =
+    let d = s.definitions in
+    let new = counted (without_pool d pool) in
+    let front = goes_before d pool in
+    let apart : same_name general pool ≡ false = same_name-sym general pool ∙ user in
+    record {
+      sound = sound;
+      sized = sized-dropped s pool new refl h.sound h.sized apart;
+      there = there-dropped d pool front s.sessions s.waiting s.running apart (general-there d h.sound) h.there;
+      held = subst (AreWithinMemory d) (sym (bytes-dropped s pool new refl h.sound h.sized apart)) (held-dropped s pool h.sound h.sized h.there user known h.covered.held);
+      in_phase = in_phase-dropped pool front s.sessions s.waiting s.running h.in_phase;
+      opened = opened-dropped s.last_session pool s.sessions h.opened;
+      numbered = numbered-dropped s.last_query pool front s.waiting s.running h.numbered;
+      timed = timed-dropped s.clock pool front s.waiting s.running h.timed;
+      room = record {
+        kept = omega (arith, h.room.kept, owed-dropped pool front s.sessions s.waiting s.running);
+        defined = omega (arith, h.room.defined);
+        sessions = h.room.sessions;
+        queries = h.room.queries;
+      };
+    }
+
+unsettled-dropped : (s : State) (pool : Name) (new : Definitions) → IsFormed (Define (DropPool pool)) → IsHealthyWith 0 0 s → accepted s.definitions (DropPool pool) ≡ Ok new
+    → IsUnsettledWith 0 1 (dropped s pool new)
+unsettled-dropped s pool new formed h accepts =
+    let parts = accepted-left s.definitions (DropPool pool) new accepts in
+    let free = drop-free s.definitions pool parts.0 in
+    let sound = accepted-sound s.definitions (DropPool pool) new h.sound (well_formed-in_range (DropPool pool) formed) accepts in
+    subst (λ (d : Definitions). IsUnsettledWith 0 1 (dropped s pool d)) parts.1
+    (dropped-counted s pool h free.0 free.1 (subst IsSound (sym parts.1) sound))
 
 -- a query that is to go on elsewhere may be moved, and its target is there
 target-is : (s : State) (seat session : ℕ) (x : Session) (r : Runner) (pool : Name) → IsChecked s seat session x r (GoesTo pool)
