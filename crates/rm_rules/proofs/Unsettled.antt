@@ -330,11 +330,14 @@ dropped-counted s pool h known user sound =
     let new = counted (without_pool d pool) in
     let front = goes_before d pool in
     let apart : same_name general pool ≡ false = same_name-sym general pool ∙ user in
+    let there = there-dropped d pool front s.sessions s.waiting s.running apart (general-there d h.sound) h.there in
+    let held : AreWithinMemory d (holdings_of (dropped s pool new)) =
+    subst (AreWithinMemory d) (sym (bytes-dropped s pool new refl h.sound h.sized apart)) (held-dropped s pool h.sound h.sized h.there user known h.covered.held) in
     record {
       sound = sound;
       sized = sized-dropped s pool new refl h.sound h.sized apart;
-      there = there-dropped d pool front s.sessions s.waiting s.running apart (general-there d h.sound) h.there;
-      held = subst (AreWithinMemory d) (sym (bytes-dropped s pool new refl h.sound h.sized apart)) (held-dropped s pool h.sound h.sized h.there user known h.covered.held);
+      there = record { runs = there.runs; waits = there.waits; chosen = there.chosen; leaves = there.leaves };
+      held = record { within = held.within; granted = held.granted; in_force_most = held.in_force_most };
       in_phase = in_phase-dropped pool front s.sessions s.waiting s.running h.in_phase;
       opened = opened-dropped s.last_session pool s.sessions h.opened;
       numbered = numbered-dropped s.last_query pool front s.waiting s.running h.numbered;
