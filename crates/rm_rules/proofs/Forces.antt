@@ -5,6 +5,7 @@ use Rattle.rm_base.specs.declared.event.Event.TheVariants.{Define, Open, SetPool
 use Rattle.rm_rules.specs.Definitions.{total}
 use Rattle.rm_rules.specs.State.{State}
 use Rattle.rm_rules.specs.Settle.{settled}
+use Rattle.rm_rules.specs.DropPool.{dropped}
 use Rattle.rm_rules.specs.Change.{Change, defined}
 use Rattle.rm_rules.specs.Step.{entered, moved_to, has_due, found_at, attempted, step}
 use Rattle.rm_rules.specs.Replay.{IsFormed}
@@ -32,7 +33,9 @@ force-least s t (Close session) least = least
 force-changed : (s t : State) (seat : ℕ) (event : Event) (c : Change) → IsChange t seat event c → t.definitions ≡ s.definitions → t.in_force ≡ s.in_force
     → (settled c.state).in_force ≤ max (total c.state.definitions) c.state.in_force → total s.definitions ≤ s.in_force → RaisesForce s (settled c.state) event
 force-changed s t seat _ _ (defines statement new none accepts) same force most least =
-    λ rises. let left = rest-settled (defined t new).state in omega (arith, rises, most, force, least, ap total left.definitions)
+    λ rises. let left = rest-settled (defined t new) in omega (arith, rises, most, force, least, ap total left.definitions)
+force-changed s t seat _ _ (drops pool new accepts) same force most least =
+    λ rises. let left = rest-settled (dropped t pool new) in omega (arith, rises, most, force, least, ap total left.definitions)
 force-changed s t seat _ _ (opens user may) same force most least = omega (arith, most, force, least, ap total same)
 force-changed s t seat _ _ (chooses session pool x found may other) same force most least = omega (arith, most, force, least, ap total same)
 force-changed s t seat _ _ (caps session cap x found room other) same force most least = omega (arith, most, force, least, ap total same)

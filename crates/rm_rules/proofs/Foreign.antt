@@ -1,11 +1,13 @@
 -- What an event leaves of the sessions for which it is not.
-use Rattle.std.proofs.Common.{◌≡◌, ℕ, Bool, true, false, ◌||◌, cond, eqb, List, [], ◌∷◌, ◌++◌, Some, None, inl, inr, refl, sym, ap, ◌∙◌, subst}
+use Rattle.std.proofs.Common.{◌≡◌, ℕ, Bool, true, false, ◌||◌, cond, eqb, List, [], ◌∷◌, ◌++◌, map, Some, None, inl, inr, refl, sym, ap, ◌∙◌, subst}
 use Rattle.std.specs.Prelude.{option_map}
 use Rattle.std.proofs.lemmas.Bool.{eqb-true, false≢true}
 use Rattle.rm_base.specs.declared.event.Event.{Event}
-use Rattle.rm_base.specs.declared.event.Event.TheVariants.{GiveWay}
+use Rattle.rm_base.specs.declared.event.Event.TheVariants.{Define, GiveWay}
+use Rattle.rm_base.specs.declared.name.Name.{Name}
 use Rattle.rm_base.specs.declared.reply.End.{End}
 use Rattle.rm_base.specs.declared.reply.End.TheVariants.{Cancelled}
+use Rattle.rm_base.specs.declared.statement.Statement.TheVariants.{DropPool}
 use Rattle.rm_rules.specs.declared.answer.Answer.{Answer}
 use Rattle.rm_rules.specs.declared.state.Phase.{Phase}
 use Rattle.rm_rules.specs.declared.state.Phase.TheVariants as phase
@@ -20,11 +22,13 @@ use Rattle.rm_rules.specs.Change.{Change, within_moments}
 use Rattle.rm_rules.specs.Answers.{answered}
 use Rattle.rm_rules.specs.Step.{moved_to, has_due, found_at, attempted, step}
 use Rattle.rm_rules.specs.Replay.{IsFormed}
-use Rattle.rm_rules.specs.Sessions.{session_in, IsForeign, Settles, Stays, Runs, Ends, IsLeft, LeavesForeign}
+use Rattle.rm_rules.specs.DropPool.{named_in_place, session_beside}
+use Rattle.rm_rules.specs.Sessions.{session_in, IsForeign, Settles, Stays, Runs, Ends, KeepsChoice, Same, Dropped, IsLeft, LeavesForeign}
 use Rattle.rm_rules.specs.Healthy.{AreInPhase, IsHealthy}
 use Rattle.rm_rules.proofs.Taken.{found_passes}
 use Rattle.rm_rules.proofs.Found.{find-without}
 use Rattle.rm_rules.proofs.Changed.{other-changed}
+use Rattle.rm_rules.proofs.Dropping.{called-dropped}
 use Rattle.rm_rules.proofs.Phases.{has_number, phased, choosing_pool, capped, differ, called-with_same, called-with_other, phase_of-found}
 use Rattle.rm_rules.proofs.Queue.{IsAmong, found_among}
 use Rattle.rm_rules.proofs.Admitting.{session-waits, in_phase-admitted}
@@ -56,11 +60,20 @@ waits-ends end phase.Waiting h = Ends end
 waits-ends end phase.Running h = absurd (false≢true h)
 waits-ends end (phase.Ended other) h = absurd (false≢true h)
 
+-- what settling leaves of a session: all but its phase
+pub record IsKept (old new : Session) : Type 0 where
+  pub number : new.number ≡ old.number
+  pub seat : new.seat ≡ old.seat
+  pub user : new.user ≡ old.user
+  pub pool : new.pool ≡ old.pool
+  pub cap_ms : new.cap_ms ≡ old.cap_ms
+  pub phase : Settles old.phase new.phase
+
 -- the session of this number is left as it was
 pub record IsLeftAt (n : ℕ) (x : Session) (sessions : List Session) : Type 0 where
   pub session : Session
   pub called : session_called sessions n ≡ Some session
-  pub left : IsLeft x session
+  pub left : IsKept x session
 
 pub left-self : (n : ℕ) (x : Session) (sessions : List Session) → session_called sessions n ≡ Some x → IsLeftAt n x sessions
 left-self n x sessions found = record {
@@ -149,56 +162,90 @@ push-turn : (n : ℕ) (x y : Session) (xs : List Session) → session_called xs 
 push-turn n x y [] found = let none : None ≡ Some x = found in absurd (cc)
 push-turn n x y (z ∷ xs) found = behind (eqb z.number n) n x y z xs found (push-turn n x y xs)
 
-abbrev apart : State → ℕ → Event → ℕ → Session → Type 0
-apart s seat event n x =
+abbrev apart : State → ℕ → Event → ℕ → Type 0
+apart s seat event n =
     (session : ℕ) (z : Session) → session_in event ≡ Some session → session_of s seat session ≡ Some z → eqb z.number n ≡ false
 
 -- a running query of another session
-runner-apart : (s : State) (seat : ℕ) (event : Event) (n session : ℕ) (x z : Session) (r : Runner) → apart s seat event n x → session_in event ≡ Some session
+runner-apart : (s : State) (seat : ℕ) (event : Event) (n session : ℕ) (z : Session) (r : Runner) → apart s seat event n → session_in event ≡ Some session
     → session_of s seat session ≡ Some z → runner_of s.running z.number ≡ Some r → eqb r.session n ≡ false
-runner-apart s seat event n session x z r other for found runs =
+runner-apart s seat event n session z r other for found runs =
     differ r.session z.number n (other session z for found) (found_passes (λ (y : Runner). eqb y.session z.number) r s.running runs)
 
+-- the session as it was, or with GENERAL in the place of the pool that the event drops
+data IsBeside (event : Event) (x : Session) : Session → Type 0 where
+  as_before : IsBeside event x x
+  beside : (pool : Name) → event ≡ Define (DropPool pool) → IsBeside event x (session_beside pool x)
+
+-- the session is left so by this event
+record IsLeftBy (event : Event) (n : ℕ) (x : Session) (sessions : List Session) : Type 0 where
+  session : Session
+  by_event : IsBeside event x session
+  at : IsLeftAt n session sessions
+
+by-same : {event : Event} {n : ℕ} {x : Session} {sessions : List Session} → IsLeftAt n x sessions → IsLeftBy event n x sessions
+by-same {event} {n} {x} h = record { session = x; by_event = as_before; at = h }
+
+left-dropped : (pool : Name) (n : ℕ) (x : Session) (sessions : List Session) → IsLeftAt n x sessions
+    → IsLeftAt n (session_beside pool x) (map (session_beside pool) sessions)
+left-dropped pool n x sessions h = record {
+  session = session_beside pool h.session;
+  called = called-dropped pool n sessions ∙ ap (option_map (session_beside pool)) h.called;
+  left = record {
+    number = h.left.number;
+    seat = h.left.seat;
+    user = h.left.user;
+    pool = ap (named_in_place pool) h.left.pool;
+    cap_ms = h.left.cap_ms;
+    phase = h.left.phase;
+  };
+}
+
 left-changed : (s : State) (seat : ℕ) (event : Event) (c : Change) (n : ℕ) (x : Session) → IsChange s seat event c → AreInPhase s.sessions s.waiting s.running
-    → apart s seat event n x → IsLeftAt n x s.sessions → IsLeftAt n x c.state.sessions
-left-changed s seat _ _ n x (defines statement new none accepts) in_phase other h = h
-left-changed s seat _ _ n x (opens user may) in_phase other h = record { session = h.session; called = push-turn n h.session _ s.sessions h.called; left = h.left }
-left-changed s seat _ _ n x (chooses session pool z found may differs) in_phase other h = record {
+    → apart s seat event n → IsLeftAt n x s.sessions → IsLeftBy event n x c.state.sessions
+left-changed s seat _ _ n x (defines statement new none accepts) in_phase other h = by-same h
+left-changed s seat _ _ n x (drops pool new accepts) in_phase other h = record {
+  session = session_beside pool x;
+  by_event = beside pool refl;
+  at = left-dropped pool n x s.sessions h;
+}
+left-changed s seat _ _ n x (opens user may) in_phase other h = by-same (record { session = h.session; called = push-turn n h.session _ s.sessions h.called; left = h.left })
+left-changed s seat _ _ n x (chooses session pool z found may differs) in_phase other h = by-same (record {
   session = h.session;
   called =
       other-changed (has_number z.number) (has_number n) (choosing_pool pool) s.sessions
       (λ y is. differ y.number z.number n (other session z refl found) is) (λ y. refl)
       ∙ h.called;
   left = h.left;
-}
-left-changed s seat _ _ n x (caps session cap z found room differs) in_phase other h = record {
+})
+left-changed s seat _ _ n x (caps session cap z found room differs) in_phase other h = by-same (record {
   session = h.session;
   called =
       other-changed (has_number z.number) (has_number n) (capped (within_moments cap)) s.sessions
       (λ y is. differ y.number z.number n (other session z refl found) is) (λ y. refl)
       ∙ h.called;
   left = h.left;
-}
+})
 left-changed s seat _ _ n x (submits session floor z found may) in_phase other h =
-    left-with n z.number phase.Waiting x s.sessions h (λ same. absurd (false≢true (sym (other session z refl found) ∙ same)))
+    by-same (left-with n z.number phase.Waiting x s.sessions h (λ same. absurd (false≢true (sym (other session z refl found) ∙ same))))
 left-changed s seat _ _ n x (collects session z end found ended) in_phase other h =
-    left-with n z.number phase.Idle x s.sessions h (λ same. absurd (false≢true (sym (other session z refl found) ∙ same)))
-left-changed s seat _ _ n x (moves_on session z r pool is taken) in_phase other h = h
-left-changed s seat _ _ n x (asks session z r pool is) in_phase other h = h
+    by-same (left-with n z.number phase.Idle x s.sessions h (λ same. absurd (false≢true (sym (other session z refl found) ∙ same))))
+left-changed s seat _ _ n x (moves_on session z r pool is taken) in_phase other h = by-same h
+left-changed s seat _ _ n x (asks session z r pool is) in_phase other h = by-same h
 left-changed s seat _ _ n x (gives_way session z r pool found runs leaves) in_phase other h =
-    left-with n r.session phase.Waiting x s.sessions h
-    (λ same. absurd (false≢true (sym (runner-apart s seat (GiveWay session) n session x z r other refl found runs) ∙ same)))
+    by-same (left-with n r.session phase.Waiting x s.sessions h
+    (λ same. absurd (false≢true (sym (runner-apart s seat (GiveWay session) n session z r other refl found runs) ∙ same))))
 left-changed s seat _ _ n x (finishes session z found runs) in_phase other h =
-    left-with n z.number phase.Idle x s.sessions h (λ same. absurd (false≢true (sym (other session z refl found) ∙ same)))
+    by-same (left-with n z.number phase.Idle x s.sessions h (λ same. absurd (false≢true (sym (other session z refl found) ∙ same))))
 left-changed s seat _ _ n x (withdraws by target z y w may waits) in_phase other h =
     let among = found_among (λ v. eqb v.session y.number) w s.waiting waits in
-    left-with n w.session (phase.Ended Cancelled) x s.sessions h (λ same. waits-ends Cancelled _ (waits-at n s w in_phase among same))
-left-changed s seat _ _ n x (stops by target z y r may runs first) in_phase other h = h
-left-changed s seat _ _ n x (closes session z found rests) in_phase other h = record {
+    by-same (left-with n w.session (phase.Ended Cancelled) x s.sessions h (λ same. waits-ends Cancelled _ (waits-at n s w in_phase among same)))
+left-changed s seat _ _ n x (stops by target z y r may runs first) in_phase other h = by-same h
+left-changed s seat _ _ n x (closes session z found rests) in_phase other h = by-same (record {
   session = h.session;
   called = find-without (has_number z.number) (has_number n) s.sessions (λ y is. differ y.number z.number n (other session z refl found) is) ∙ h.called;
   left = h.left;
-}
+})
 
 -- and its answer is another session's
 answer-turn : (n m : ℕ) (x : Session) (t : State) (b : Bool) → eqb m n ≡ false → IsLeftAt n x t.sessions → IsLeftAt n x (cond b (with_phase m phase.Idle t.sessions) t.sessions)
@@ -214,9 +261,10 @@ quiet-answered s t seat _ _ n x (judges session z r answer is says) h = h
 quiet-answered s t seat _ _ n x (stops_again by target z y r may runs already) h = h
 quiet-answered s t seat _ _ n x (tells session z found active) h = h
 
-change-answered : (s t : State) (seat : ℕ) (event : Event) (c : Change) (n : ℕ) (x : Session) → IsChange s seat event c → apart s seat event n x → IsLeftAt n x t.sessions
+change-answered : (s t : State) (seat : ℕ) (event : Event) (c : Change) (n : ℕ) (x : Session) → IsChange s seat event c → apart s seat event n → IsLeftAt n x t.sessions
     → IsLeftAt n x (answered t c.answer).sessions
 change-answered s t seat _ _ n x (defines statement new none accepts) other h = h
+change-answered s t seat _ _ n x (drops pool new accepts) other h = h
 change-answered s t seat _ _ n x (opens user may) other h = h
 change-answered s t seat _ _ n x (chooses session pool z found may differs) other h = h
 change-answered s t seat _ _ n x (caps session cap z found room differs) other h = h
@@ -225,7 +273,7 @@ change-answered s t seat _ _ n x (collects session z end found ended) other h = 
 change-answered s t seat _ _ n x (moves_on session z r pool is taken) other h = h
 change-answered s t seat _ _ n x (asks session z r pool is) other h = h
 change-answered s t seat _ _ n x (gives_way session z r pool found runs leaves) other h =
-    answer-turn n r.session x t (is_ended (phase_of t.sessions r.session)) (runner-apart s seat (GiveWay session) n session x z r other refl found runs) h
+    answer-turn n r.session x t (is_ended (phase_of t.sessions r.session)) (runner-apart s seat (GiveWay session) n session z r other refl found runs) h
 change-answered s t seat _ _ n x (finishes session z found runs) other h = h
 change-answered s t seat _ _ n x (withdraws by target z y w may waits) other h = h
 change-answered s t seat _ _ n x (stops by target z y r may runs first) other h = h
@@ -233,11 +281,39 @@ change-answered s t seat _ _ n x (closes session z found rests) other h = h
 
 -- what is tried leaves the session, and so does its settling and its answer
 tried-left : (s : State) (seat : ℕ) (event : Event) (c : Change) (n : ℕ) (x : Session) → IsTried s seat event c → AreInPhase c.state.sessions c.state.waiting c.state.running
-    → apart s seat event n x → IsLeftIn n x s → IsLeftAt n x (answered (settled c.state) c.answer).sessions
+    → apart s seat event n → IsLeftIn n x s → IsLeftBy event n x (answered (settled c.state) c.answer).sessions
 tried-left s seat event _ n x (stays answer still) in_phase other h =
-    quiet-answered s (settled s) seat event answer n x still (left-settled n x s in_phase h.left).left
+    by-same (quiet-answered s (settled s) seat event answer n x still (left-settled n x s in_phase h.left).left)
 tried-left s seat event _ n x (changes c is loud) in_phase other h =
-    change-answered s (settled c.state) seat event c n x is other (left-settled n x c.state in_phase (left-changed s seat event c n x is h.in_phase other h.left)).left
+    let now = left-changed s seat event c n x is h.in_phase other h.left in
+    record {
+      session = now.session;
+      by_event = now.by_event;
+      at = change-answered s (settled c.state) seat event c n now.session is other (left-settled n now.session c.state in_phase now.at).left;
+    }
+
+-- so an event leaves a session for which it is not
+kept-left : (event : Event) (x y z : Session) → IsBeside event x y → IsKept y z → IsLeft event x z
+kept-left event x _ z as_before h = record {
+  number = h.number;
+  seat = h.seat;
+  user = h.user;
+  pool = subst (KeepsChoice event x.pool) (sym h.pool) Same;
+  cap_ms = h.cap_ms;
+  phase = h.phase;
+}
+kept-left event x _ z (beside pool is) h = record {
+  number = h.number;
+  seat = h.seat;
+  user = h.user;
+  pool = subst (KeepsChoice event x.pool) (sym h.pool) (Dropped pool is);
+  cap_ms = h.cap_ms;
+  phase = h.phase;
+}
+
+foreign-left : (event : Event) (n : ℕ) (x : Session) (sessions : List Session) → IsLeftBy event n x sessions
+    → (y : Session) × (session_called sessions n ≡ Some y) × IsLeft event x y
+foreign-left event n x sessions h = (h.at.session, h.at.called, kept-left event x h.session h.at.session h.by_event h.at.left)
 
 pub foreign-step : (s : State) (seat at : ℕ) (event : Event) → IsHealthy s → IsFormed event → LeavesForeign seat event s (step s seat at event).state
 foreign-step s seat at event h formed x called foreign =
@@ -247,11 +323,8 @@ foreign-step s seat at event h formed x called foreign =
     let n = x.number in
     let before = left-found n x s at h.in_phase called in
     let found = before.left in
-    let other : apart t seat event n x = λ session z for of.
+    let other : apart t seat event n = λ session z for of.
     number-turn t seat session n event x found.session z for foreign refl found.left.seat found.called of (eqb z.number n) refl in
-    outcome-turn (λ o. (y : Session) × (session_called o.state.sessions n ≡ Some y) × IsLeft x y) s seat event c (has_due s at || c.changed)
-    (λ settles.
-    let left = tried-left t seat event c n x is (unsettled-tried s seat at event c is formed h settles).in_phase other before in
-    (left.session, left.called, left.left)
-    )
-    (λ still. let left = left-self n x s.sessions called in (left.session, left.called, left.left))
+    outcome-turn (λ o. (y : Session) × (session_called o.state.sessions n ≡ Some y) × IsLeft event x y) s seat event c (has_due s at || c.changed)
+    (λ settles. foreign-left event n x _ (tried-left t seat event c n x is (unsettled-tried s seat at event c is formed h settles).in_phase other before))
+    (λ still. foreign-left event n x s.sessions (by-same (left-self n x s.sessions called)))

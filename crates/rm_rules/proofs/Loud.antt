@@ -9,6 +9,7 @@ use Rattle.std.proofs.lemmas.Bool.Decides.{nat_tests}
 use Rattle.rm_base.specs.declared.definitions.Definitions.{Definitions}
 use Rattle.rm_base.specs.declared.event.Event.{Event}
 use Rattle.rm_base.specs.declared.name.Name.{Name}
+use Rattle.rm_base.specs.declared.statement.Statement.TheVariants.{DropPool}
 use Rattle.rm_base.specs.Name.{same_name}
 use Rattle.rm_base.proofs.Names.{same_name-refl}
 use Rattle.rm_rules.specs.declared.answer.Answer.{Answer}
@@ -19,6 +20,7 @@ use Rattle.rm_rules.specs.declared.state.Waiter.{Waiter}
 use Rattle.rm_rules.specs.declared.state.Runner.{Runner}
 use Rattle.rm_rules.specs.State.{State, session_called, session_pool, waiter_of, runner_of, with_phase, without_waiter, without_runner, is_idle}
 use Rattle.rm_rules.specs.Repeated.{repeated}
+use Rattle.rm_rules.specs.DropPool.{dropped, goes_before}
 use Rattle.rm_rules.specs.Admission.{started}
 use Rattle.rm_rules.specs.Moving.{moved, leaving_for, requeued, stopping, moved_on, asked_to_leave, gave_way, asked_to_stop}
 use Rattle.rm_rules.specs.Deadlines.{first_due, timed_out, without_due}
@@ -32,6 +34,7 @@ use Rattle.rm_rules.specs.Healthy.{AreInPhase, AreNumbered, IsHealthy}
 use Rattle.rm_rules.proofs.Taken.{found_passes, sum_without, length_without, count_without, counted_among}
 use Rattle.rm_rules.proofs.AcceptanceLaws.{accepted-counted}
 use Rattle.rm_rules.proofs.Changed.{sum-changed, found-changed}
+use Rattle.rm_rules.proofs.Dropping.{sum-transferred}
 use Rattle.rm_rules.proofs.Phases.{has_number, phased, choosing_pool, capped, called-with_same, length-with}
 use Rattle.rm_rules.proofs.Queue.{IsAmong}
 use Rattle.rm_rules.proofs.Admitting.{waiter_found}
@@ -117,8 +120,13 @@ runner-own s n r found = ap (runner_of s.running) (eqb-true r.session n (found_p
 loud-change : (s : State) (seat clock : ℕ) (event : Event) (c : Change) → IsFormed event → IsChange s seat event c → AreInPhase c.state.sessions c.state.waiting c.state.running
     → answered (settled c.state) c.answer ≡ at_clock clock s → ⊥
 loud-change s seat clock _ _ formed (defines statement new none accepts) in_phase same =
-    let counted = accepted-counted s.definitions statement new formed.0 accepts in
-    let left = (rest-settled (defined s new).state).definitions in
+    let counted = accepted-counted s.definitions statement new accepts in
+    let left = (rest-settled (defined s new)).definitions in
+    let changes : s.definitions.changes ≡ new.changes = ap (λ (u : State). u.definitions.changes) (sym same) ∙ ap (λ (d : Definitions). d.changes) left in
+    omega (arith, changes, counted.changes)
+loud-change s seat clock _ _ formed (drops pool new accepts) in_phase same =
+    let counted = accepted-counted s.definitions (DropPool pool) new accepts in
+    let left = (rest-settled (dropped s pool new)).definitions in
     let changes : s.definitions.changes ≡ new.changes = ap (λ (u : State). u.definitions.changes) (sym same) ∙ ap (λ (d : Definitions). d.changes) left in
     omega (arith, changes, counted.changes)
 loud-change s seat clock _ _ formed (opens user may) in_phase same =
@@ -244,7 +252,9 @@ gone-due s w found h numbered = due-turn s w (length s.waiting) found (due-among
 -- and no change lets it wait again
 gone-changed : (s : State) (seat : ℕ) (event : Event) (c : Change) (n : ℕ) → IsChange s seat event c → n ≤ s.last_query → runs_count n s ≡ 0 → waiting_count n s ≡ 0
     → waiting_count n c.state ≡ 0
-gone-changed s seat _ _ n (defines statement new none accepts) given ran none = none
+gone-changed s seat _ _ n (defines statement new plain accepts) given ran none = none
+gone-changed s seat _ _ n (drops pool new accepts) given ran none =
+    sum-transferred (λ (w : Waiter). cond (eqb w.query n) 1 0) s.waiting pool (goes_before s.definitions pool) (λ w. refl) ∙ none
 gone-changed s seat _ _ n (opens user may) given ran none = none
 gone-changed s seat _ _ n (chooses session pool x found may other) given ran none = none
 gone-changed s seat _ _ n (caps session cap x found room other) given ran none = none

@@ -105,6 +105,7 @@ called-waiting s x found = called-with_same x.number phase.Waiting s.sessions �
 
 refused-change : (s u : State) (seat : ℕ) (event : Event) (r : Refusal) (c : Change) → IsChange s seat event c → TellsLive c.state u → reply_of u c.answer ≡ reply.Refused r → ⊥
 refused-change s u seat _ r _ (defines statement new none accepts) told_live e = cc
+refused-change s u seat _ r _ (drops pool new accepts) told_live e = cc
 refused-change s u seat _ r _ (opens user may) told_live e = cc
 refused-change s u seat _ r _ (chooses session pool x found may differs) told_live e = cc
 refused-change s u seat _ r _ (caps session cap x found room differs) told_live e = cc
