@@ -17,7 +17,8 @@ use Rattle.rm_rules.proofs.Places.{without-found, position-within, position-is}
 use Rattle.rm_rules.proofs.Taken.{or_both_false}
 use Rattle.accounts.specs.Accounts.{has_name, is_of, grant_of, given_back}
 use Rattle.accounts.specs.Kept.{IsBalanced}
-use Rattle.accounts.specs.Moves.{moved_to, is_reserve_of}
+use Rattle.rm_rules.specs.DropPool.{is_reserve_of}
+use Rattle.accounts.specs.Moves.{moved_to}
 use Rattle.accounts.specs.Sizes.{held}
 use Rattle.accounts.proofs.Keeping.{kept_taken, kept_given_back}
 

@@ -13,7 +13,8 @@ use Rattle.rm_rules.specs.Accounting.{used, debt, kept_back, account_behind}
 use Rattle.rm_rules.specs.Shuffle.{grown_reserves, shuffled}
 use Rattle.rm_rules.proofs.Places.{without-found, without-absent, find-found, find-absent, before-found}
 use Rattle.accounts.specs.Accounts.{is_of, grant_of, before, no_account, account_of, taken, given_back, with_pool}
-use Rattle.accounts.specs.Moves.{moved_to, is_reserve_of, handed_over, folded}
+use Rattle.rm_rules.specs.DropPool.{is_reserve_of, holding_beside, folded}
+use Rattle.accounts.specs.Moves.{moved_to}
 use Rattle.accounts.specs.Sizes.{fallen_reserves}
 
 -- a query more, and one pool more
@@ -29,7 +30,7 @@ pool-seen h a es pool same items =
 
 -- without a pool, whose reserve is found at a place
 pub folded-seen : (h a : Holdings) (es : List Reserve) (gs : List Holding) (pool : Name) (i : ℕ) → h ≡ a → es ≡ remove h.reserves i
-    → position (is_reserve_of pool) a.reserves ≡ Some i → gs ≡ map (handed_over pool) h.grants
+    → position (is_reserve_of pool) a.reserves ≡ Some i → gs ≡ map (holding_beside pool) h.grants
     → record h { reserves = es; grants = gs } ≡ folded a pool
 folded-seen h a es gs pool i same rest found handed =
     let place : position (is_reserve_of pool) h.reserves ≡ Some i = ap (λ (x : Holdings). position (is_reserve_of pool) x.reserves) same ∙ found in

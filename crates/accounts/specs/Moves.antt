@@ -1,10 +1,6 @@
--- A running query in another pool, and the queries of a pool that is gone.
-use Rattle.std.specs.Prelude.{ℕ, Bool, map, if◌then◌else◌}
+-- A running query in another pool.
+use Rattle.std.specs.Prelude.{ℕ}
 use Rattle.rm_base.specs.declared.name.Name.{Name}
-use Rattle.rm_base.specs.Name.{same_name, general}
-use Rattle.rm_rules.specs.declared.state.Holding.{Holding}
-use Rattle.rm_rules.specs.declared.state.Reserve.{Reserve}
-use Rattle.rm_rules.specs.State.{without}
 use Rattle.rm_rules.specs.Holdings.{Holdings}
 use Rattle.rm_rules.specs.Accounting.{used, running_in, lent, free, need}
 use Rattle.accounts.specs.declared.moves.IfMoved.{IfMoved}
@@ -27,15 +23,3 @@ if_moved h query pool = seen_from (given_back h query) pool (grant_of h.grants q
 -- with the query in the pool, behind the others, and the same grant
 abbrev pub moved_to : Holdings → ℕ → Name → Holdings
 moved_to h query pool = taken (given_back h query) query pool (grant_of h.grants query)
-
--- the reserve is the pool's
-abbrev pub is_reserve_of : Name → Reserve → Bool
-is_reserve_of pool e = same_name e.pool pool
-
--- what a query of the pool holds, as one of GENERAL's
-abbrev pub handed_over : Name → Holding → Holding
-handed_over pool g = if same_name g.pool pool then record g { pool = general } else g
-
--- without the pool: its bytes are GENERAL's again, and so are its queries, in their places and with their grants
-abbrev pub folded : Holdings → Name → Holdings
-folded h pool = record h { reserves = without (is_reserve_of pool) h.reserves; grants = map (handed_over pool) h.grants }

@@ -43,7 +43,8 @@ impl Accounts {
     ghost use Rattle.rm_rules.specs.Accounting.{used, running_in, reserve_of, actual_of, own_of, unused_of, lent, free, need, account_behind};
     ghost use Rattle.rm_rules.specs.Shuffle.{shuffled};
     ghost use Rattle.accounts.specs.Accounts.{names_in, has_name, is_of, has_query, queries, grant_of, account_of, first_holdings, taken, given_back, with_pool};
-    ghost use Rattle.accounts.specs.Moves.{if_moved, moved_to, is_reserve_of, folded};
+    ghost use Rattle.rm_rules.specs.DropPool.{is_reserve_of, folded};
+    ghost use Rattle.accounts.specs.Moves.{if_moved, moved_to};
 
     /// No query runs yet. All memory that the accounts will ever use is taken here.
     pub fn new(alloc: Global, definitions: &Definitions) -> Result<Accounts, AllocError>

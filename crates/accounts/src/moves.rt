@@ -4,7 +4,7 @@ ghost use Rattle.std.specs.Prelude.{◌≡◌, ◌<◌, ◌≤◌, ◌+◌, ◌+
 ghost use Rattle.rm_base.specs.declared.limits.TheConstants.{SESSIONS_MOST};
 ghost use Rattle.rm_base.specs.Name.{general};
 ghost use Rattle.rm_rules.specs.Accounting.{used, running_in, debt, unused};
-ghost use Rattle.accounts.specs.Moves.{handed_over};
+ghost use Rattle.rm_rules.specs.DropPool.{holding_beside};
 ghost use Rattle.accounts.specs.Sizes.{held};
 
 use crate::bytes::{running_in, used};
@@ -81,8 +81,8 @@ pub fn lent_beside(before: &[Holding], behind: &[Holding], reserves: &[Reserve])
 }
 
 /// What a query holds, as one of GENERAL's where it runs in the pool.
-fn handed_over(g: Holding, pool: Name) -> Holding
-    ensures { result ≡ handed_over pool g }
+fn beside(g: Holding, pool: Name) -> Holding
+    ensures { result ≡ holding_beside pool g }
 {
     if g.pool.same(pool) {
         Holding {
@@ -96,10 +96,10 @@ fn handed_over(g: Holding, pool: Name) -> Holding
 
 /// The pool's queries become GENERAL's, in their places and with their grants.
 pub fn hand_over(grants: &mut Bounded<Holding, SESSIONS_MOST>, pool: Name)
-    ensures { grants.new ≡ map (handed_over pool) grants.old }
+    ensures { grants.new ≡ map (holding_beside pool) grants.old }
 {
     for i in 0..grants.len() {
-        let g = handed_over(grants.rows()[i], pool);
+        let g = beside(grants.rows()[i], pool);
         grants.set(i, g);
     }
 }

@@ -5,7 +5,8 @@ use Rattle.std.proofs.lemmas.List.Elements.{filter-append}
 use Rattle.std.proofs.Math.Seq.{drop-cons, get_or-append_seam}
 use Rattle.rm_base.specs.declared.name.Name.{Name}
 use Rattle.rm_rules.specs.declared.state.Waiter.{Waiter}
-use Rattle.pool_queue.specs.Transfer.{is_in, as_generals, handed_over, others, transferred, parted, renamed}
+use Rattle.rm_rules.specs.DropPool.{waits_in, as_generals, transferred}
+use Rattle.pool_queue.specs.Transfer.{parted, renamed}
 
 -- what the pass has made when it is at place n: those so far that pass the test, what is ahead, and those so far that do not
 abbrev pub passed : {A : Type 0} → (A → Bool) → List A → ℕ → List A
@@ -102,36 +103,36 @@ parted-end {A} test xs i past =
     λ j. filter test (all j) ++ (none j ++ filter (λ x. not (test x)) (all j))
 
 -- the pool's queries among these become GENERAL's, and those of other pools stay
-renamed-turn : (pool : Name) (w : Waiter) (ws : List Waiter) (b : Bool) → is_in pool w ≡ b → map (renamed pool) (filter (is_in pool) ws) ≡ handed_over ws pool
-    → map (renamed pool) (cond b (w ∷ filter (is_in pool) ws) (filter (is_in pool) ws)) ≡ map as_generals (cond b (w ∷ filter (is_in pool) ws) (filter (is_in pool) ws))
+renamed-turn : (pool : Name) (w : Waiter) (ws : List Waiter) (b : Bool) → waits_in pool w ≡ b → map (renamed pool) (filter (waits_in pool) ws) ≡ map as_generals (filter (waits_in pool) ws)
+    → map (renamed pool) (cond b (w ∷ filter (waits_in pool) ws) (filter (waits_in pool) ws)) ≡ map as_generals (cond b (w ∷ filter (waits_in pool) ws) (filter (waits_in pool) ws))
 renamed-turn pool w ws true e rest = let here : renamed pool w ≡ as_generals w = ap (λ (b : Bool). cond b (as_generals w) w) e in λ j. here j ∷ rest j
 renamed-turn pool w ws false e rest = rest
 
-renamed-all : (pool : Name) (ws : List Waiter) → map (renamed pool) (filter (is_in pool) ws) ≡ handed_over ws pool
+renamed-all : (pool : Name) (ws : List Waiter) → map (renamed pool) (filter (waits_in pool) ws) ≡ map as_generals (filter (waits_in pool) ws)
 renamed-all pool [] = refl
-renamed-all pool (w ∷ ws) = renamed-turn pool w ws (is_in pool w) refl (renamed-all pool ws)
+renamed-all pool (w ∷ ws) = renamed-turn pool w ws (waits_in pool w) refl (renamed-all pool ws)
 
-kept-turn : (pool : Name) (w : Waiter) (ws : List Waiter) (b : Bool) → is_in pool w ≡ b → map (renamed pool) (others ws pool) ≡ others ws pool
-    → map (renamed pool) (cond (not b) (w ∷ others ws pool) (others ws pool)) ≡ cond (not b) (w ∷ others ws pool) (others ws pool)
+kept-turn : (pool : Name) (w : Waiter) (ws : List Waiter) (b : Bool) → waits_in pool w ≡ b → map (renamed pool) (filter (λ w. not (waits_in pool w)) ws) ≡ filter (λ w. not (waits_in pool w)) ws
+    → map (renamed pool) (cond (not b) (w ∷ filter (λ w. not (waits_in pool w)) ws) (filter (λ w. not (waits_in pool w)) ws)) ≡ cond (not b) (w ∷ filter (λ w. not (waits_in pool w)) ws) (filter (λ w. not (waits_in pool w)) ws)
 kept-turn pool w ws true e rest = rest
 kept-turn pool w ws false e rest = let here : renamed pool w ≡ w = ap (λ (b : Bool). cond b (as_generals w) w) e in λ j. here j ∷ rest j
 
-kept-all : (pool : Name) (ws : List Waiter) → map (renamed pool) (others ws pool) ≡ others ws pool
+kept-all : (pool : Name) (ws : List Waiter) → map (renamed pool) (filter (λ w. not (waits_in pool w)) ws) ≡ filter (λ w. not (waits_in pool w)) ws
 kept-all pool [] = refl
-kept-all pool (w ∷ ws) = kept-turn pool w ws (is_in pool w) refl (kept-all pool ws)
+kept-all pool (w ∷ ws) = kept-turn pool w ws (waits_in pool w) refl (kept-all pool ws)
 
 -- those that are not of other pools are the pool's
 twice-turn : (w : Waiter) (ps qs : List Waiter) (b : Bool) → ps ≡ qs → cond (not (not b)) (w ∷ ps) ps ≡ cond b (w ∷ qs) qs
 twice-turn w ps qs true rest = ap (λ l. w ∷ l) rest
 twice-turn w ps qs false rest = rest
 
-twice : (pool : Name) (ws : List Waiter) → filter (λ w. not (not (is_in pool w))) ws ≡ filter (is_in pool) ws
+twice : (pool : Name) (ws : List Waiter) → filter (λ w. not (not (waits_in pool w))) ws ≡ filter (waits_in pool) ws
 twice pool [] = refl
-twice pool (w ∷ ws) = twice-turn w (filter (λ x. not (not (is_in pool x))) ws) (filter (is_in pool) ws) (is_in pool w) (twice pool ws)
+twice pool (w ∷ ws) = twice-turn w (filter (λ x. not (not (waits_in pool x))) ws) (filter (waits_in pool) ws) (waits_in pool w) (twice pool ws)
 
 pub renamed-parted : (pool : Name) (front : Bool) (ws : List Waiter) → map (renamed pool) (parted ws pool front) ≡ transferred ws pool front
 renamed-parted pool true ws =
-    map-append (renamed pool) (filter (is_in pool) ws) (others ws pool) ∙ (let all = renamed-all pool ws in let kept = kept-all pool ws in λ j. all j ++ kept j)
+    map-append (renamed pool) (filter (waits_in pool) ws) (filter (λ w. not (waits_in pool w)) ws) ∙ (let all = renamed-all pool ws in let kept = kept-all pool ws in λ j. all j ++ kept j)
 renamed-parted pool false ws =
-    map-append (renamed pool) (others ws pool) (filter (λ w. not (not (is_in pool w))) ws)
+    map-append (renamed pool) (filter (λ w. not (waits_in pool w)) ws) (filter (λ w. not (not (waits_in pool w))) ws)
     ∙ (let all = ap (λ (l : List Waiter). map (renamed pool) l) (twice pool ws) ∙ renamed-all pool ws in let kept = kept-all pool ws in λ j. kept j ++ all j)

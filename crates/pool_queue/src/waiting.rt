@@ -36,7 +36,7 @@ impl Queue {
     ghost use Rattle.rm_rules.specs.Admission.{first_in_queue};
     ghost use Rattle.rm_rules.specs.Deadlines.{is_due, is_nowait};
     ghost use Rattle.pool_queue.specs.Queue.{is_query, has_query, query_of, place_of_query, are_pools_known, is_large};
-    ghost use Rattle.pool_queue.specs.Transfer.{transferred};
+    ghost use Rattle.rm_rules.specs.DropPool.{transferred};
 
     /// No query waits yet. All memory that the queue will ever use is taken here.
     pub fn new(alloc: Global) -> Result<Queue, AllocError>

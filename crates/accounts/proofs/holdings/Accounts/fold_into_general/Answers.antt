@@ -4,7 +4,7 @@ use Rattle.std.specs.Option.{IsSome}
 use Rattle.rm_rules.specs.Holdings.{Holdings}
 use Rattle.rm_rules.proofs.Places.{find-found}
 use Rattle.accounts.specs.Kept.{IsBalanced, seen_holdings}
-use Rattle.accounts.specs.Moves.{is_reserve_of}
+use Rattle.rm_rules.specs.DropPool.{is_reserve_of}
 use Rattle.accounts.proofs.Folding.{kept_folded}
 use Rattle.accounts.proofs.Moving.{position-present, reserve-present}
 use Rattle.accounts.proofs.Seen.{folded-seen}
