@@ -2,7 +2,6 @@
 use Rattle.std.proofs.Common.{◌≡◌, ℕ, ◌≤◌, Bool, true, false, cond, List, [], ◌∷◌, ◌++◌, Some, None, Option, ◌⊎◌, inl, inr, refl, sym, ap, ◌∙◌, subst, arith, count_by}
 use Rattle.std.specs.Option.{is_some, option_or}
 use Rattle.std.specs.List.{find}
-use Rattle.std.proofs.lemmas.Bool.{false≢true}
 use Rattle.std.proofs.lemmas.List.Sums.{sum_by-cons}
 use Rattle.std.proofs.lemmas.List.Folds.{find-append}
 use Rattle.rm_rules.specs.State.{without}
@@ -50,18 +49,6 @@ unfound-turn test x xs false absent rest = ap (λ l. x ∷ l) (rest absent)
 pub without-unfound : {A : Type 0} (test : A → Bool) (xs : List A) → find test xs ≡ None → without test xs ≡ xs
 without-unfound test [] absent = refl
 without-unfound test (x ∷ xs) absent = unfound-turn test x xs (test x) absent (without-unfound test xs)
-
--- what another test does not take is found as before
-kept-turn : {A : Type 0} (test other : A → Bool) (x y : A) (xs : List A) (b c : Bool) → other x ≡ b → test x ≡ c → cond c (Some x) (find test xs) ≡ Some y → other y ≡ false
-    → (find test xs ≡ Some y → find test (without other xs) ≡ Some y) → find test (cond b xs (x ∷ without other xs)) ≡ Some y
-kept-turn test other x y xs true true e f found apart rest = let same : x ≡ y = cc in absurd (false≢true (sym apart ∙ ap other (sym same) ∙ e))
-kept-turn test other x y xs true false e f found apart rest = found
-kept-turn test other x y xs false true e f found apart rest = ap (λ b. cond b (Some x) (find test (without other xs))) f ∙ found
-kept-turn test other x y xs false false e f found apart rest = ap (λ b. cond b (Some x) (find test (without other xs))) f ∙ rest found
-
-pub found-kept : {A : Type 0} (test other : A → Bool) (y : A) (xs : List A) → find test xs ≡ Some y → other y ≡ false → find test (without other xs) ≡ Some y
-found-kept test other y [] found apart = let none : None ≡ Some y = found in absurd (cc)
-found-kept test other y (x ∷ xs) found apart = kept-turn test other x y xs (other x) (test x) refl refl found apart (λ more. found-kept test other y xs more apart)
 
 -- where no item passes both tests, what the one takes out changes nothing that the other finds
 apart-turn : {A : Type 0} (test other : A → Bool) (x : A) (xs : List A) (b : Bool) → (b ≡ true → other x ≡ false) → find other (without test xs) ≡ find other xs

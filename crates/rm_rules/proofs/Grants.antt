@@ -39,7 +39,8 @@ use Rattle.rm_rules.proofs.Within.{moved-within-cap, stays-within, within-settle
 use Rattle.rm_rules.proofs.Verdicts.{IsCheckReply, says_go, says_way, says_end, says_stop}
 use Rattle.rm_rules.proofs.Changing.{IsTried, stays, changes, IsQuiet, refuses, repeats, caps_again, judges, stops_again, tells, IsChange, defines, opens, chooses, caps, submits, collects, moves_on, asks, gives_way, finishes, withdraws, stops, closes, choice_made, cap_made, session_of-is, session_of-found, tried-is, rest-tried}
 use Rattle.rm_rules.proofs.Phases.{phased, called-with_same, phase_of-found}
-use Rattle.rm_rules.proofs.Keeping.{runner_found, unsettled-changed}
+use Rattle.rm_rules.proofs.Keeping.{runner_found}
+use Rattle.rm_rules.proofs.Unsettled.{unsettled-changed}
 use Rattle.rm_rules.proofs.Answering.{beside-answered}
 use Rattle.rm_rules.proofs.Refusing.{told-settled}
 use Rattle.rm_rules.proofs.Stepping.{found-facts, outcome-turn}
@@ -253,6 +254,7 @@ freed-kept s (Some n) query other = turn (runner_of s.running n) refl where
   apart : (r : Runner) → runner_of s.running n ≡ Some r → (b : Bool) → eqb r.query query ≡ b → b ≡ false
   apart r found true same = absurd (other (query_of-found s n (Some r) found ∙ ap (λ k. Some k) (eqb-true r.query query same)))
   apart r found false same = refl
+
   turn : (o : Option Runner) → runner_of s.running n ≡ o → runner_called (without_runner n s.running) query ≡ runner_called s.running query
   turn None absent = ap (λ l. runner_called l query) (without-unfound (λ (r : Runner). eqb r.session n) s.running absent)
   turn (Some r) found =
@@ -374,7 +376,7 @@ abbrev Waits : State → Event → ℕ → Waiter → Type 0
 Waits s event moment w = IsAmong w s.waiting ⊎ (WasSubmitted s event w ⊎ GaveWay s event moment w)
 
 -- What a change does to the running and the waiting queries. One whose grant it gives back waits no more.
-pub record Turned (s : State) (event : Event) (answer : Reply) (moment : ℕ) (c : State) : Type 0 where
+record Turned (s : State) (event : Event) (answer : Reply) (moment : ℕ) (c : State) : Type 0 where
   pub order : GoOn event answer moment (still_running s event answer) c.running
   pub whole : (session : ℕ) → freeing event answer ≡ Some session → (query : ℕ) × (freed_by s event answer ≡ Some query)
   pub freed : (query grant : ℕ) → freed_by s event answer ≡ Some query → released answer ≡ Some grant
@@ -405,6 +407,7 @@ turned-submitted s session floor x pool answer number plain =
     turned-plain s (submitted s x pool floor).state (Submit session floor) answer plain refl (λ w among. turn w (among-push w (new_waiter s x pool floor) s.waiting among)) where
       new : WasSubmitted s (Submit session floor) (new_waiter s x pool floor)
       new = (ap (λ n. Submit n floor) (sym number), refl)
+
       turn : (w : Waiter) → IsAmong w s.waiting ⊎ (w ≡ new_waiter s x pool floor) → Waits s (Submit session floor) s.clock w
       turn w (inl before) = inl before
       turn w (inr is) = inr (inl (subst (WasSubmitted s (Submit session floor)) (sym is) new))
@@ -571,7 +574,7 @@ gone-settled c query none waits_not = turn (runner_called (settled c).running qu
       absurd (waits_not came.waiter came.among (came-number c query r (settled c).running came found))
 
 -- a state that runs what has settled
-pub record RunsAs (t new : State) : Type 0 where
+record RunsAs (t new : State) : Type 0 where
   pub running : new.running ≡ t.running
   pub definitions : new.definitions ≡ t.definitions
   pub clock : new.clock ≡ t.clock

@@ -5,7 +5,7 @@ use Rattle.std.proofs.lemmas.Bool.{eqb-true, eq-eqb, false≢true}
 use Rattle.std.proofs.lemmas.Bool.Decides.{nat_tests}
 use Rattle.rm_base.specs.declared.entry.Entry.{Entry}
 use Rattle.rm_base.specs.declared.event.Event.{Event}
-use Rattle.rm_base.specs.declared.event.Event.TheVariants.{Define, Open, SetPool, SetCap, Submit, Poll, Check, GiveWay, Finish, Cancel, Close}
+use Rattle.rm_base.specs.declared.event.Event.TheVariants.{Submit, GiveWay, Finish}
 use Rattle.rm_base.specs.declared.name.Name.{Name}
 use Rattle.rm_base.specs.declared.refusal.Refusal.{Refusal}
 use Rattle.rm_base.specs.declared.refusal.Refusal.TheVariants as refusal
@@ -30,7 +30,7 @@ use Rattle.rm_rules.specs.Replay.{IsFormed, replay, IsLegal, own_entries}
 use Rattle.rm_rules.specs.Sessions.{session_in}
 use Rattle.rm_rules.specs.Healthy.{AreInPhase, AreOpened, AreNumbered, IsHealthy}
 use Rattle.rm_rules.specs.Grants.{Run, run_by, run_of, runner_called, query_of, is_refused, freeing, freed_by}
-use Rattle.rm_rules.proofs.Taken.{found_passes, found_counted, counted_among, all_found, or_left_false, or_right_false}
+use Rattle.rm_rules.proofs.Taken.{found_passes, counted_among, all_found, or_left_false, or_right_false}
 use Rattle.rm_rules.proofs.Found.{found-push, found-split, found-other, find-without, none-left}
 use Rattle.rm_rules.proofs.Changed.{found-changed, other-changed}
 use Rattle.rm_rules.proofs.Phases.{has_number, phased, choosing_pool, phase_in, differ, one_if-most, phase_of-found}
@@ -265,9 +265,11 @@ not-freed s seat at owner session event r h owned runs unless_finished unless_go
   own by =
       let is = session_of-is (found_at s at) seat session by.opener by.found in
       sym is.of_seat ∙ (owned-found_at s at session owner owned).owner by.opener is.called
+
   freed-turn : (by : IsFreedBy (found_at s at) seat event session) → (event ≡ Finish session) ⊎ (event ≡ GiveWay session) → ⊥
   freed-turn by (inl is) = unless_finished is (own by)
   freed-turn by (inr is) = unless_gone is (own by)
+
   turn : (o : Option ℕ) → freeing event (step s seat at event).reply ≡ o → option_and_then (query_of s) o ≡ Some r.query → ⊥
   turn None e f = absurd (cc)
   turn (Some m) e f =
