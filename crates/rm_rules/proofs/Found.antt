@@ -1,11 +1,11 @@
 -- What is found in lists that are put together, of which something is taken, or of which one item alone passes.
 use Rattle.std.proofs.Common.{◌≡◌, ℕ, ◌≤◌, Bool, true, false, cond, List, [], ◌∷◌, ◌++◌, Some, None, Option, ◌⊎◌, inl, inr, refl, sym, ap, ◌∙◌, subst, arith, count_by}
-use Rattle.std.specs.Option.{is_some}
+use Rattle.std.specs.Option.{is_some, option_or}
 use Rattle.std.specs.List.{find}
-use Rattle.std.proofs.lemmas.Bool.{false≢true}
 use Rattle.std.proofs.lemmas.List.Sums.{sum_by-cons}
+use Rattle.std.proofs.lemmas.List.Folds.{find-append}
 use Rattle.rm_rules.specs.State.{without}
-use Rattle.rm_rules.proofs.Taken.{found_passes, found_counted, found_single, sum_without}
+use Rattle.rm_rules.proofs.Taken.{found_passes, found_counted, found_single, counted_among, sum_without}
 
 -- what is not found in front is found behind
 behind-turn : {A : Type 0} (test : A → Bool) (x y : A) (xs ys : List A) (b : Bool) → cond b (Some x) (find test xs) ≡ None → cond b (Some x) (find test (xs ++ ys)) ≡ Some y
@@ -49,18 +49,6 @@ unfound-turn test x xs false absent rest = ap (λ l. x ∷ l) (rest absent)
 pub without-unfound : {A : Type 0} (test : A → Bool) (xs : List A) → find test xs ≡ None → without test xs ≡ xs
 without-unfound test [] absent = refl
 without-unfound test (x ∷ xs) absent = unfound-turn test x xs (test x) absent (without-unfound test xs)
-
--- what another test does not take is found as before
-kept-turn : {A : Type 0} (test other : A → Bool) (x y : A) (xs : List A) (b c : Bool) → other x ≡ b → test x ≡ c → cond c (Some x) (find test xs) ≡ Some y → other y ≡ false
-    → (find test xs ≡ Some y → find test (without other xs) ≡ Some y) → find test (cond b xs (x ∷ without other xs)) ≡ Some y
-kept-turn test other x y xs true true e f found apart rest = let same : x ≡ y = cc in absurd (false≢true (sym apart ∙ ap other (sym same) ∙ e))
-kept-turn test other x y xs true false e f found apart rest = found
-kept-turn test other x y xs false true e f found apart rest = ap (λ b. cond b (Some x) (find test (without other xs))) f ∙ found
-kept-turn test other x y xs false false e f found apart rest = ap (λ b. cond b (Some x) (find test (without other xs))) f ∙ rest found
-
-pub found-kept : {A : Type 0} (test other : A → Bool) (y : A) (xs : List A) → find test xs ≡ Some y → other y ≡ false → find test (without other xs) ≡ Some y
-found-kept test other y [] found apart = let none : None ≡ Some y = found in absurd (cc)
-found-kept test other y (x ∷ xs) found apart = kept-turn test other x y xs (other x) (test x) refl refl found apart (λ more. found-kept test other y xs more apart)
 
 -- where no item passes both tests, what the one takes out changes nothing that the other finds
 apart-turn : {A : Type 0} (test other : A → Bool) (x : A) (xs : List A) (b : Bool) → (b ≡ true → other x ≡ false) → find other (without test xs) ≡ find other xs
@@ -113,3 +101,40 @@ none-left test xs few = lone-turn test xs (find test xs) refl few
 pub is_some-find : {A : Type 0} (test : A → Bool) (xs : List A) (b : Bool) → count_by test xs ≡ cond b 1 0 → is_some (find test xs) ≡ b
 is_some-find test xs true one = let there = found_counted test xs (omega (arith, one)) in ap is_some there.1
 is_some-find test xs false none = ap is_some (none-counted test xs none)
+
+-- what one test finds, another that it alone passes finds too, and finds no more once it is taken out
+pub found-other : {A : Type 0} (test other : A → Bool) (y : A) (xs : List A) → find test xs ≡ Some y → other y ≡ true → count_by other xs ≤ 1 → find other xs ≡ Some y
+found-other {A} test other y xs found passes few =
+    let split = found-split test y xs found in
+    let some : 1 ≤ count_by other xs = subst (λ (l : List A). 1 ≤ count_by other l) (sym split.1.1) (counted_among other split.0 split.1.0 y passes) in
+    let there = found_counted other xs some in
+    there.1 ∙ ap (λ z. Some z) (sym (found-same test other y there.0 xs found passes few there.1))
+
+pub gone-other : {A : Type 0} (test other : A → Bool) (y : A) (xs : List A) → find test xs ≡ Some y → other y ≡ true → count_by other xs ≤ 1 → find other (without test xs) ≡ None
+gone-other test other y xs found passes few =
+    let one : cond {A = ℕ} (other y) 1 0 ≡ 1 = ap {B = ℕ} (λ b. cond b 1 0) passes in
+    none-counted other (without test xs) (omega (arith, few, one, sum_without (λ z. cond (other z) 1 0) test y xs found))
+
+-- where it does not pass the other test, that finds what it found
+beside-turn : {A : Type 0} (test other : A → Bool) (x y : A) (xs : List A) (b : Bool) → cond b (Some x) (find test xs) ≡ Some y → other y ≡ false
+    → (find test xs ≡ Some y → find other (without test xs) ≡ find other xs) → find other (cond b xs (x ∷ without test xs)) ≡ cond (other x) (Some x) (find other xs)
+beside-turn test other x y xs true found apart rest = let same : x ≡ y = cc in sym (ap (λ b. cond b (Some x) (find other xs)) (ap other same ∙ apart))
+beside-turn test other x y xs false found apart rest = ap (λ o. cond (other x) (Some x) o) (rest found)
+
+pub find-beside : {A : Type 0} (test other : A → Bool) (y : A) (xs : List A) → find test xs ≡ Some y → other y ≡ false → find other (without test xs) ≡ find other xs
+find-beside test other y [] found apart = refl
+find-beside test other y (x ∷ xs) found apart = beside-turn test other x y xs (test x) found apart (λ more. find-beside test other y xs more apart)
+
+-- and with it put last, each test that one item at most passes finds what it found
+put-turn : {A : Type 0} (test other : A → Bool) (y : A) (xs : List A) (b : Bool) → other y ≡ b → find test xs ≡ Some y → count_by other xs ≤ 1
+    → option_or (find other (without test xs)) (cond b (Some y) None) ≡ find other xs
+put-turn test other y xs true e found few =
+    ap (λ o. option_or o (Some y)) (gone-other test other y xs found e few) ∙ sym (found-other test other y xs found e few)
+put-turn {A} test other y xs false e found few = or-none (find other (without test xs)) ∙ find-beside test other y xs found e where
+  or-none : (o : Option A) → option_or o None ≡ o
+  or-none None = refl
+  or-none (Some x) = refl
+
+pub find-put : {A : Type 0} (test other : A → Bool) (y : A) (xs : List A) → find test xs ≡ Some y → count_by other xs ≤ 1
+    → find other (without test xs ++ y ∷ []) ≡ find other xs
+find-put test other y xs found few = find-append other (without test xs) (y ∷ []) ∙ put-turn test other y xs (other y) refl found few

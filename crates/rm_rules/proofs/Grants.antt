@@ -4,35 +4,45 @@ use Rattle.std.specs.Prelude.{◌≢◌, option_map, option_and_then}
 use Rattle.std.specs.List.{find}
 use Rattle.std.proofs.lemmas.Bool.{eqb-true, eq-eqb, false≢true}
 use Rattle.rm_base.specs.declared.event.Event.{Event}
-use Rattle.rm_base.specs.declared.event.Event.TheVariants.{Define, Open, SetPool, Submit, Poll, Finish, Close}
+use Rattle.rm_base.specs.declared.event.Event.TheVariants.{Define, Open, SetPool, SetCap, Submit, Poll, Check, GiveWay, Finish, Cancel, Close}
+use Rattle.rm_base.specs.declared.name.Name.{Name}
 use Rattle.rm_base.specs.declared.refusal.Refusal.{Refusal}
+use Rattle.rm_base.specs.declared.refusal.Refusal.TheVariants as refusal
+use Rattle.rm_base.specs.declared.reply.End.{End}
 use Rattle.rm_base.specs.declared.reply.Reply.{Reply}
 use Rattle.rm_base.specs.declared.reply.Reply.TheVariants as reply
 use Rattle.rm_rules.specs.declared.answer.Answer.{Answer}
+use Rattle.rm_rules.specs.declared.state.Phase.{Phase}
+use Rattle.rm_rules.specs.declared.state.Phase.TheVariants as phase
+use Rattle.rm_rules.specs.declared.state.Session.{Session}
 use Rattle.rm_rules.specs.declared.state.Waiter.{Waiter}
 use Rattle.rm_rules.specs.declared.state.Runner.{Runner}
 use Rattle.rm_rules.specs.Definitions.{pool_row}
 use Rattle.rm_rules.specs.Ask.{cap}
-use Rattle.rm_rules.specs.State.{State, without, without_waiter, without_runner, session_pool, phase_of, is_running, runner_of}
+use Rattle.rm_rules.specs.State.{State, session_called, changed_first, without, without_runner, session_pool, is_running, runner_of, waiter_of}
 use Rattle.rm_rules.specs.Holdings.{holdings}
 use Rattle.rm_rules.specs.Accounting.{used}
+use Rattle.rm_rules.specs.Moving.{takes, moved, leaving_for, requeued, stopping, moved_on, asked_to_leave, gave_way, asked_to_stop}
 use Rattle.rm_rules.specs.Admission.{started, admitted, first_entitled}
 use Rattle.rm_rules.specs.Settle.{settled}
-use Rattle.rm_rules.specs.Change.{Change, grant_of, new_waiter, defined, opened, submitted, collected, finished, closed}
-use Rattle.rm_rules.specs.Answers.{told, reply_of}
+use Rattle.rm_rules.specs.Change.{Change, grant_of, new_waiter, within_moments, defined, opened, submitted, collected, withdrawn, finished, closed}
+use Rattle.rm_rules.specs.Answers.{told, told_in_phase, told_running, told_waiting, reply_of}
 use Rattle.rm_rules.specs.Step.{entered, moved_to, has_due, found_at, attempted, step}
 use Rattle.rm_rules.specs.Healthy.{AreNumbered, IsHealthy}
-use Rattle.rm_rules.specs.Grants.{runner_called, waiter_called, grant_called, query_of, released, freed_by, still_running, WasSubmitted, HasWaited, IsAdmitted, KeepsGrants}
-use Rattle.rm_rules.proofs.Taken.{found_passes, found_counted, found_single, counted_among, sum_without, or_right_false}
-use Rattle.rm_rules.proofs.Found.{found-behind, found-front, found-push, found-kept, found-split, found-same, none-counted}
+use Rattle.rm_rules.specs.Grants.{runner_called, waiter_called, grant_called, query_of, released, moved_on_to, is_refused, freeing, freed_by, moving_in, without_freed, with_moved, still_running, GoesOn, Stays, Moves, Leaves, Stops, GoOn, Nobody, Next, WasSubmitted, GaveWay, HasWaited, IsAdmitted, KeepsGrants}
+use Rattle.rm_rules.proofs.Taken.{found_passes, found_counted, found_single, counted_among, count_without, or_right_false}
+use Rattle.rm_rules.proofs.Found.{found-behind, found-front, found-push, found-split, found-other, gone-other, find-beside, find-put, without-unfound}
 use Rattle.rm_rules.proofs.Queue.{IsAmong, further, found_among}
 use Rattle.rm_rules.proofs.SettledLaws.{none_without}
 use Rattle.rm_rules.proofs.Settling.{entitled-among, due-keeps, settled-keeps, rest-settled}
-use Rattle.rm_rules.proofs.Within.{within-settled}
-use Rattle.rm_rules.proofs.Changing.{IsTried, stays, changes, IsQuiet, refuses, repeats, tells, IsChange, defines, drops, opens, chooses, submits, collects, finishes, closes, choice_made, session_of-is, session_of-found, tried-is}
-use Rattle.rm_rules.proofs.Phases.{one_if-most, phase_of-found}
+use Rattle.rm_rules.proofs.Within.{moved-within-cap, stays-within, within-settled}
+use Rattle.rm_rules.proofs.Verdicts.{IsCheckReply, says_go, says_way, says_end, says_stop}
+use Rattle.rm_rules.proofs.Changing.{IsTried, stays, changes, IsQuiet, refuses, repeats, caps_again, judges, stops_again, tells, IsChange, defines, drops, opens, chooses, caps, submits, collects, moves_on, asks, gives_way, finishes, withdraws, stops, closes, choice_made, cap_made, session_of-is, session_of-found, tried-is, rest-tried}
+use Rattle.rm_rules.proofs.Phases.{phased, called-with_same, phase_of-found}
 use Rattle.rm_rules.proofs.Keeping.{runner_found}
+use Rattle.rm_rules.proofs.Unsettled.{unsettled-changed}
 use Rattle.rm_rules.proofs.Answering.{beside-answered}
+use Rattle.rm_rules.proofs.Refusing.{told-settled}
 use Rattle.rm_rules.proofs.Stepping.{found-facts, outcome-turn}
 
 -- what is left of a list is of the list
@@ -132,38 +142,72 @@ come-settled c =
     c
     (record { definitions = refl; clock = refl; waits = λ w among. among; more = []; split = sym (append-nil c.running); came = λ query r found. absurd (let none : None ≡ Some r = found in cc) })
 
--- What a change does to the running and the waiting queries: the query of one number ends, or none. It waits no more, and
--- no other comes or goes but a new one that waits.
-pub record Turned (s c : State) (event : Event) (freed : Option ℕ) : Type 0 where
-  pub kept : (query : ℕ) (r : Runner) → runner_called s.running query ≡ Some r → freed ≢ Some query → runner_called c.running query ≡ Some r
-  pub gone : (query : ℕ) → freed ≡ Some query → runner_called c.running query ≡ None
-  pub waits_not : (query : ℕ) → freed ≡ Some query → (w : Waiter) → IsAmong w c.waiting → w.query ≡ query → ⊥
-  pub none : (query : ℕ) → runner_called s.running query ≡ None → runner_called c.running query ≡ None
-  pub waits : (w : Waiter) → IsAmong w c.waiting → IsAmong w s.waiting ⊎ WasSubmitted s event w
+-- what goes on keeps its number, its session and its grant
+pub record IsSameRun (r x : Runner) : Type 0 where
+  pub query : x.query ≡ r.query
+  pub session : x.session ≡ r.session
+  pub grant : x.grant ≡ r.grant
 
--- where the running queries stay as they are
-turned-waits : (s c : State) (event : Event) → c.running ≡ s.running → ((w : Waiter) → IsAmong w c.waiting → IsAmong w s.waiting ⊎ WasSubmitted s event w) → Turned s c event None
-turned-waits s c event running waits = record {
-  kept = λ query r found none. ap (λ l. runner_called l query) running ∙ found;
-  gone = λ query none. absurd (cc);
-  waits_not = λ query none w among is. absurd (let e : None ≡ Some query = none in cc);
-  none = λ query found. ap (λ l. runner_called l query) running ∙ found;
-  waits = waits;
-}
+pub goes-same : (event : Event) (answer : Reply) (moment : ℕ) (r x : Runner) → GoesOn event answer moment r x → IsSameRun r x
+goes-same event answer moment r _ Stays = record { query = refl; session = refl; grant = refl }
+goes-same event answer moment r _ (Moves pool is says) = record { query = refl; session = refl; grant = refl }
+goes-same event answer moment r _ (Leaves pool is says) = record { query = refl; session = refl; grant = refl }
+goes-same event answer moment r _ (Stops by is says) = record { query = refl; session = refl; grant = refl }
 
-turned-same : (s c : State) (event : Event) → c.running ≡ s.running → c.waiting ≡ s.waiting → Turned s c event None
-turned-same s c event running waiting = turned-waits s c event running (λ w among. inl (subst (IsAmong w) waiting among))
+-- all stay, the last goes on, or the first that passes a test
+go-all : (event : Event) (answer : Reply) (moment : ℕ) (rs : List Runner) → GoOn event answer moment rs rs
+go-all event answer moment [] = Nobody
+go-all event answer moment (r ∷ rs) = Next r r rs rs Stays (go-all event answer moment rs)
 
-turned-closed : (s c : State) (event : Event) (n : ℕ) → c.running ≡ s.running → c.waiting ≡ without_waiter n s.waiting → Turned s c event None
-turned-closed s c event n running waiting =
-    turned-waits s c event running (λ w among. inl (among-without (λ x. eqb x.session n) w s.waiting (subst (IsAmong w) waiting among)))
+go-last : (event : Event) (answer : Reply) (moment : ℕ) (rs : List Runner) (r x : Runner) → GoesOn event answer moment r x
+    → GoOn event answer moment (rs ++ r ∷ []) (rs ++ x ∷ [])
+go-last event answer moment [] r x goes = Next r x [] [] goes Nobody
+go-last event answer moment (y ∷ rs) r x goes = Next y y (rs ++ r ∷ []) (rs ++ x ∷ []) Stays (go-last event answer moment rs r x goes)
 
-turned-submitted : (s c : State) (event : Event) (y : Waiter) → c.running ≡ s.running → c.waiting ≡ s.waiting ++ y ∷ [] → WasSubmitted s event y → Turned s c event None
-turned-submitted s c event y running waiting next =
-    turned-waits s c event running (λ w among. turn w (among-push w y s.waiting (subst (IsAmong w) waiting among))) where
-      turn : (w : Waiter) → IsAmong w s.waiting ⊎ (w ≡ y) → IsAmong w s.waiting ⊎ WasSubmitted s event w
-      turn w (inl before) = inl before
-      turn w (inr new) = inr (subst (WasSubmitted s event) (sym new) next)
+first-turn : (event : Event) (answer : Reply) (moment : ℕ) (test : Runner → Bool) (act : Runner → Runner) (r : Runner) (rs : List Runner) (b : Bool)
+    → (b ≡ true → GoesOn event answer moment r (act r)) → GoOn event answer moment rs (changed_first test act rs)
+    → GoOn event answer moment (r ∷ rs) (cond b (act r ∷ rs) (r ∷ changed_first test act rs))
+first-turn event answer moment test act r rs true goes more = Next r (act r) rs rs (goes refl) (go-all event answer moment rs)
+first-turn event answer moment test act r rs false goes more = Next r r rs (changed_first test act rs) Stays more
+
+go-first : (event : Event) (answer : Reply) (moment : ℕ) (test : Runner → Bool) (act : Runner → Runner) (rs : List Runner)
+    → ((r : Runner) → test r ≡ true → GoesOn event answer moment r (act r)) → GoOn event answer moment rs (changed_first test act rs)
+go-first event answer moment test act [] goes = Nobody
+go-first event answer moment test act (r ∷ rs) goes =
+    first-turn event answer moment test act r rs (test r) (goes r) (go-first event answer moment test act rs goes)
+
+-- so each is found by its number as it goes on, and no other is
+found-turn : (event : Event) (answer : Reply) (moment query : ℕ) (r y x : Runner) (rs xs : List Runner) (b : Bool) → eqb y.query query ≡ b → GoesOn event answer moment y x
+    → cond b (Some y) (runner_called rs query) ≡ Some r
+    → (runner_called rs query ≡ Some r → (z : Runner) × (runner_called xs query ≡ Some z) × GoesOn event answer moment r z)
+    → (z : Runner) × (runner_called (x ∷ xs) query ≡ Some z) × GoesOn event answer moment r z
+found-turn event answer moment query r y x rs xs true e goes found more =
+    let same : y ≡ r = cc in
+    let here : eqb x.query query ≡ true = ap (λ k. eqb k query) (goes-same event answer moment y x goes).query ∙ e in
+    (x, ap (λ b. cond b (Some x) (runner_called xs query)) here, subst (λ z. GoesOn event answer moment z x) same goes)
+found-turn event answer moment query r y x rs xs false e goes found more =
+    let there = more found in
+    let further : eqb x.query query ≡ false = ap (λ k. eqb k query) (goes-same event answer moment y x goes).query ∙ e in
+    (there.0, ap (λ b. cond b (Some x) (runner_called xs query)) further ∙ there.1, there.2)
+
+go-found : (event : Event) (answer : Reply) (moment query : ℕ) (r : Runner) (rs xs : List Runner) → GoOn event answer moment rs xs → runner_called rs query ≡ Some r
+    → (z : Runner) × (runner_called xs query ≡ Some z) × GoesOn event answer moment r z
+go-found event answer moment query r _ _ Nobody found = absurd (let none : None ≡ Some r = found in cc)
+go-found event answer moment query r _ _ (Next y x rs xs goes more) found =
+    found-turn event answer moment query r y x rs xs (eqb y.query query) refl goes found (go-found event answer moment query r rs xs more)
+
+absent-turn : (query : ℕ) (y x : Runner) (rs xs : List Runner) (b : Bool) → eqb x.query query ≡ b → cond b (Some y) (runner_called rs query) ≡ None
+    → (runner_called rs query ≡ None → runner_called xs query ≡ None) → cond b (Some x) (runner_called xs query) ≡ None
+absent-turn query y x rs xs true e none more = absurd (cc)
+absent-turn query y x rs xs false e none more = more none
+
+go-none : (event : Event) (answer : Reply) (moment query : ℕ) (rs xs : List Runner) → GoOn event answer moment rs xs → runner_called rs query ≡ None
+    → runner_called xs query ≡ None
+go-none event answer moment query _ _ Nobody none = none
+go-none event answer moment query _ _ (Next y x rs xs goes more) none =
+    let number = (goes-same event answer moment y x goes).query in
+    absent-turn query y x rs xs (eqb x.query query) refl (ap (λ k. cond (eqb k query) (Some y) (runner_called rs query)) number ∙ none)
+    (go-none event answer moment query rs xs more)
 
 -- what a session's running query holds
 pub grant_of-found : (running : List Runner) (n : ℕ) (r : Runner) → runner_of running n ≡ Some r → grant_of running n ≡ r.grant
@@ -172,124 +216,343 @@ grant_of-found running n r found = ap (λ (o : Option Runner). elim o [ Some y �
 -- a running query is what its number finds
 pub runner-number : (s : State) (n : ℕ) (r : Runner) → runner_of s.running n ≡ Some r → AreNumbered s.last_query s.waiting s.running → runner_called s.running r.query ≡ Some r
 runner-number s n r found numbered =
-    let by_number = λ (x : Runner). eqb x.query r.query in
-    let split = found-split (λ (x : Runner). eqb x.session n) r s.running found in
-    let counted : 1 ≤ count_by (λ (x : Runner). eqb x.query r.query) s.running =
-    subst (λ (l : List Runner). 1 ≤ count_by (λ x. eqb x.query r.query) l) (sym split.1.1)
-    (counted_among (λ (x : Runner). eqb x.query r.query) split.0 split.1.0 r (eq-eqb r.query r.query refl)) in
-    let few : count_by (λ (x : Runner). eqb x.query r.query) s.running ≤ 1 = omega (arith, numbered.once r.query) in
-    let there = found_counted (λ (x : Runner). eqb x.query r.query) s.running counted in
-    let same : r ≡ there.0 = found-same (λ (x : Runner). eqb x.session n) by_number r there.0 s.running found (eq-eqb r.query r.query refl) few there.1 in
-    there.1 ∙ ap (λ y. Some y) (sym same)
+    found-other (λ (x : Runner). eqb x.session n) (λ (x : Runner). eqb x.query r.query) r s.running found (eq-eqb r.query r.query refl) (omega (arith, numbered.once r.query))
 
--- where the running query of a session ends
-turned-finished : (s c : State) (event : Event) (n : ℕ) (r : Runner) → c.running ≡ without_runner n s.running → c.waiting ≡ s.waiting → runner_of s.running n ≡ Some r
-    → count_by (λ (x : Runner). eqb x.session n) s.running ≤ 1 → AreNumbered s.last_query s.waiting s.running → Turned s c event (Some r.query)
-turned-finished s c event n r running waiting found few numbered =
-    let of_session = λ (x : Runner). eqb x.session n in
-    let counted : 1 ≤ count_by (λ (x : Runner). eqb x.query r.query) s.running =
-    let split = found-split of_session r s.running found in
-    subst (λ (l : List Runner). 1 ≤ count_by (λ x. eqb x.query r.query) l) (sym split.1.1)
-    (counted_among (λ (x : Runner). eqb x.query r.query) split.0 split.1.0 r (eq-eqb r.query r.query refl)) in
-    let one : cond {A = ℕ} (eqb r.query r.query) 1 0 ≡ 1 = ap {B = ℕ} (λ b. cond b 1 0) (eq-eqb r.query r.query refl) in
-    let gone : (let o : Option Runner = None in runner_called (without_runner n s.running) r.query ≡ o) =
-    none-counted (λ (x : Runner). eqb x.query r.query) (without_runner n s.running)
-    (omega (arith, numbered.once r.query, one, sum_without (λ (x : Runner). cond (eqb x.query r.query) 1 0) of_session r s.running found)) in
-    record {
-      kept = λ query y called other. ap (λ l. runner_called l query) running ∙ kept query y called other (eqb y.session n) refl;
-      gone = λ query is. let same : r.query ≡ query = cc in ap (λ l. runner_called l query) running ∙ subst (λ k. runner_called (without_runner n s.running) k ≡ None) same gone;
-      waits_not = λ query is w among number.
-          let same : r.query ≡ query = cc in
-          let waits : 1 ≤ count_by (λ (x : Waiter). eqb x.query r.query) s.waiting =
-          subst (λ k. 1 ≤ count_by (λ (x : Waiter). eqb x.query k) s.waiting) (number ∙ sym same) (number-counted w s.waiting (subst (IsAmong w) waiting among)) in
-          omega (arith, waits, counted, numbered.once r.query);
-      none = λ query called. ap (λ l. runner_called l query) running ∙ none_without (λ (x : Runner). eqb x.query query) (λ x. eqb x.session n) s.running called;
-      waits = λ w among. inl (subst (IsAmong w) waiting among);
-    } where
-      kept : (query : ℕ) (y : Runner) → runner_called s.running query ≡ Some y → (let o : Option ℕ = Some r.query in o ≢ Some query) → (b : Bool) → eqb y.session n ≡ b
-          → runner_called (without_runner n s.running) query ≡ Some y
-      kept query y called other true here =
-          let same : y ≡ r = found-same (λ (x : Runner). eqb x.query query) (λ x. eqb x.session n) y r s.running called here few found in
-          let number : y.query ≡ query = eqb-true y.query query (found_passes (λ (x : Runner). eqb x.query query) y s.running called) in
-          absurd (other (ap (λ k. Some k) (ap (λ (z : Runner). z.query) (sym same) ∙ number)))
-      kept query y called other false here = found-kept (λ (x : Runner). eqb x.query query) (λ x. eqb x.session n) y s.running called here
+-- and no query both waits and runs
+runs-or-waits : (s : State) (query : ℕ) (r : Runner) (w : Waiter) → AreNumbered s.last_query s.waiting s.running → runner_called s.running query ≡ Some r → IsAmong w s.waiting
+    → w.query ≢ query
+runs-or-waits s query r w numbered found among same =
+    let waits : 1 ≤ count_by (λ (x : Waiter). eqb x.query query) s.waiting =
+    subst (λ k. 1 ≤ count_by (λ (x : Waiter). eqb x.query k) s.waiting) same (number-counted w s.waiting among) in
+    let split = found-split (λ (x : Runner). eqb x.query query) r s.running found in
+    let runs : 1 ≤ count_by (λ (x : Runner). eqb x.query query) s.running =
+    subst (λ (l : List Runner). 1 ≤ count_by (λ x. eqb x.query query) l) (sym split.1.1)
+    (counted_among (λ (x : Runner). eqb x.query query) split.0 split.1.0 r (found_passes (λ (x : Runner). eqb x.query query) r s.running found)) in
+    omega (arith, waits, runs, numbered.once query)
 
--- what a change frees is the grant that its reply says, and it leaves the others as they stand
-pub record Frees (s : State) (event : Event) (answer : Reply) (c : State) : Type 0 where
-  pub turned : Turned s c event (freed_by s event answer)
-  pub says : (query : ℕ) → freed_by s event answer ≡ Some query → grant_called s.running query ≡ released answer
-  pub whole : (session grant : ℕ) → event ≡ Finish session → released answer ≡ Some grant → (query : ℕ) × (freed_by s event answer ≡ Some query)
-  pub rest : c.running ≡ still_running s event answer
+-- the number of a session's running query
+query_of-found : (s : State) (n : ℕ) (o : Option Runner) → runner_of s.running n ≡ o → query_of s n ≡ option_map (λ (r : Runner). r.query) o
+query_of-found s n o found = ap (option_map (λ (r : Runner). r.query)) found
 
--- nothing is given back to who does not finish
-abbrev pub IsNoFinish : Event → Reply → Type 0
-IsNoFinish event answer = (session grant : ℕ) → event ≡ Finish session → released answer ≡ Some grant → ⊥
+-- the session of a running query that is found
+pub session-found : (running : List Runner) (n : ℕ) (r : Runner) → runner_of running n ≡ Some r → r.session ≡ n
+session-found running n r found = eqb-true r.session n (found_passes (λ (x : Runner). eqb x.session n) r running found)
 
-frees-none : (s : State) (event : Event) (answer : Reply) (c : State) → (let o : Option ℕ = None in freed_by s event answer ≡ o) → IsNoFinish event answer
-    → c.running ≡ still_running s event answer → Turned s c event None → Frees s event answer c
-frees-none s event answer c none no_finish rest turned = record {
-  turned = subst (Turned s c event) (sym none) turned;
-  says = λ query is. absurd (let e : None ≡ Some query = sym none ∙ is in cc);
-  whole = λ session grant is gives. absurd (no_finish session grant is gives);
-  rest = rest;
+-- where a query is put last, each is found as before
+last-called : (o : Option ℕ) (query : ℕ) (running : List Runner) → count_by (λ (r : Runner). eqb r.query query) running ≤ 1
+    → runner_called (with_moved o running) query ≡ runner_called running query
+last-called None query running few = refl
+last-called (Some n) query running few = turn (runner_of running n) refl where
+  turn : (o : Option Runner) → runner_of running n ≡ o → runner_called (without_runner n running ++ elim o [ Some r ↦ r ∷ [] | None ↦ [] ]) query ≡ runner_called running query
+  turn None absent = ap (λ l. runner_called l query) (append-nil (without_runner n running) ∙ without-unfound (λ (r : Runner). eqb r.session n) running absent)
+  turn (Some r) found = find-put (λ (y : Runner). eqb y.session n) (λ y. eqb y.query query) r running found few
+
+-- where one is freed, the others are found as before
+freed-kept : (s : State) (o : Option ℕ) (query : ℕ) → option_and_then (query_of s) o ≢ Some query → runner_called (without_freed o s.running) query ≡ runner_called s.running query
+freed-kept s None query other = refl
+freed-kept s (Some n) query other = turn (runner_of s.running n) refl where
+  apart : (r : Runner) → runner_of s.running n ≡ Some r → (b : Bool) → eqb r.query query ≡ b → b ≡ false
+  apart r found true same = absurd (other (query_of-found s n (Some r) found ∙ ap (λ k. Some k) (eqb-true r.query query same)))
+  apart r found false same = refl
+
+  turn : (o : Option Runner) → runner_of s.running n ≡ o → runner_called (without_runner n s.running) query ≡ runner_called s.running query
+  turn None absent = ap (λ l. runner_called l query) (without-unfound (λ (r : Runner). eqb r.session n) s.running absent)
+  turn (Some r) found =
+      find-beside (λ (y : Runner). eqb y.session n) (λ y. eqb y.query query) r s.running found (apart r found (eqb r.query query) refl)
+
+-- and it is found no more, nor is one that was not found
+freed-gone : (s : State) (o : Option ℕ) (query : ℕ) → count_by (λ (r : Runner). eqb r.query query) s.running ≤ 1
+    → (runner_called s.running query ≡ None) ⊎ (option_and_then (query_of s) o ≡ Some query) → runner_called (without_freed o s.running) query ≡ None
+freed-gone s None query few (inl none) = none
+freed-gone s None query few (inr freed) = absurd (cc)
+freed-gone s (Some n) query few (inl none) = none_without (λ (r : Runner). eqb r.query query) (λ r. eqb r.session n) s.running none
+freed-gone s (Some n) query few (inr freed) = turn (runner_of s.running n) refl where
+  turn : (o : Option Runner) → runner_of s.running n ≡ o → runner_called (without_runner n s.running) query ≡ None
+  turn None absent = absurd (let no : None ≡ Some query = sym (query_of-found s n None absent) ∙ freed in cc)
+  turn (Some r) found =
+      let same : Some r.query ≡ Some query = sym (query_of-found s n (Some r) found) ∙ freed in
+      gone-other (λ (y : Runner). eqb y.session n) (λ y. eqb y.query query) r s.running found (eq-eqb r.query query (cc)) few
+
+few-left : (s : State) (o : Option ℕ) (query : ℕ) → AreNumbered s.last_query s.waiting s.running → count_by (λ (r : Runner). eqb r.query query) (without_freed o s.running) ≤ 1
+few-left s None query numbered = omega (arith, numbered.once query)
+few-left s (Some n) query numbered =
+    omega (arith, numbered.once query, count_without (λ (r : Runner). eqb r.query query) (λ (r : Runner). eqb r.session n) s.running)
+
+-- so those that an event leaves are all but the one that it frees
+still-kept : (s : State) (event : Event) (answer : Reply) (query : ℕ) → AreNumbered s.last_query s.waiting s.running → freed_by s event answer ≢ Some query
+    → runner_called (still_running s event answer) query ≡ runner_called s.running query
+still-kept s event answer query numbered other =
+    last-called (moving_in event answer) query (without_freed (freeing event answer) s.running) (few-left s (freeing event answer) query numbered)
+    ∙ freed-kept s (freeing event answer) query other
+
+still-gone : (s : State) (event : Event) (answer : Reply) (query : ℕ) → AreNumbered s.last_query s.waiting s.running
+    → (runner_called s.running query ≡ None) ⊎ (freed_by s event answer ≡ Some query) → runner_called (still_running s event answer) query ≡ None
+still-gone s event answer query numbered gone =
+    last-called (moving_in event answer) query (without_freed (freeing event answer) s.running) (few-left s (freeing event answer) query numbered)
+    ∙ freed-gone s (freeing event answer) query (omega (arith, numbered.once query)) gone
+
+-- an answer with which no grant ends and no query moves on
+pub record IsPlain (event : Event) (answer : Reply) : Type 0 where
+  pub frees : freeing event answer ≡ None
+  pub moves_in : moving_in event answer ≡ None
+  pub moves_to : moved_on_to answer ≡ None
+
+plain-refused : (event : Event) (r : Refusal) → IsPlain event (reply.Refused r)
+plain-refused (Define statement) r = record { frees = refl; moves_in = refl; moves_to = refl }
+plain-refused (Open user) r = record { frees = refl; moves_in = refl; moves_to = refl }
+plain-refused (SetPool session pool) r = record { frees = refl; moves_in = refl; moves_to = refl }
+plain-refused (SetCap session cap) r = record { frees = refl; moves_in = refl; moves_to = refl }
+plain-refused (Submit session floor) r = record { frees = refl; moves_in = refl; moves_to = refl }
+plain-refused (Poll session) r = record { frees = refl; moves_in = refl; moves_to = refl }
+plain-refused (Check session) r = record { frees = refl; moves_in = refl; moves_to = refl }
+plain-refused (GiveWay session) r = record { frees = refl; moves_in = refl; moves_to = refl }
+plain-refused (Finish session) r = record { frees = refl; moves_in = refl; moves_to = refl }
+plain-refused (Cancel by target) r = record { frees = refl; moves_in = refl; moves_to = refl }
+plain-refused (Close session) r = record { frees = refl; moves_in = refl; moves_to = refl }
+
+plain-check : (session : ℕ) (answer : Reply) → IsCheckReply answer → IsPlain (Check session) answer
+plain-check session _ says_go = record { frees = refl; moves_in = refl; moves_to = refl }
+plain-check session _ (says_way pool) = record { frees = refl; moves_in = refl; moves_to = refl }
+plain-check session _ (says_end which ran cap) = record { frees = refl; moves_in = refl; moves_to = refl }
+plain-check session _ says_stop = record { frees = refl; moves_in = refl; moves_to = refl }
+
+-- what a session can be told of its query
+data IsTold : Reply → Type 0 where
+  says_admitted : (query : ℕ) (pool : Name) (grant own borrowed : ℕ) → IsTold (reply.Admitted query pool grant own borrowed)
+  says_waiting : (query place : ℕ) → IsTold (reply.Waiting query place)
+  says_ended : (end : End) → IsTold (reply.Ended end)
+  says_refused : (r : Refusal) → IsTold (reply.Refused r)
+
+running-told : (s : State) (n : ℕ) (o : Option Runner) → IsTold (told_running s n o)
+running-told s n None = says_refused refusal.NotLive
+running-told s n (Some r) = says_admitted _ _ _ _ _
+
+waiting-told : (s : State) (n : ℕ) (o : Option Waiter) → IsTold (told_waiting s n o)
+waiting-told s n None = says_refused refusal.NotLive
+waiting-told s n (Some w) = says_waiting _ _
+
+phase-told : (s : State) (n : ℕ) (p : Phase) → IsTold (told_in_phase s n p)
+phase-told s n phase.Idle = says_refused refusal.NotLive
+phase-told s n phase.Waiting = waiting-told s n (waiter_of s.waiting n)
+phase-told s n phase.Running = running-told s n (runner_of s.running n)
+phase-told s n (phase.Ended end) = says_ended end
+
+told-is : (s : State) (n : ℕ) → IsTold (told s n)
+told-is s n = turn (session_called s.sessions n) where
+  turn : (o : Option Session) → IsTold (elim o [ Some x ↦ told_in_phase s n x.phase | None ↦ reply.Refused refusal.NoSuchSession ])
+  turn None = says_refused refusal.NoSuchSession
+  turn (Some x) = phase-told s n x.phase
+
+-- that is no grant given back and no move, and where it is no refusal, the event is not refused
+told-keeps : (answer : Reply) → IsTold answer → (released answer ≡ None) × (moved_on_to answer ≡ None)
+told-keeps _ (says_admitted query pool grant own borrowed) = (refl, refl)
+told-keeps _ (says_waiting query place) = (refl, refl)
+told-keeps _ (says_ended end) = (refl, refl)
+told-keeps _ (says_refused r) = (refl, refl)
+
+told-goes : (answer : Reply) → IsTold answer → ((r : Refusal) → answer ≡ reply.Refused r → ⊥) → is_refused answer ≡ false
+told-goes _ (says_admitted query pool grant own borrowed) not = refl
+told-goes _ (says_waiting query place) not = refl
+told-goes _ (says_ended end) not = refl
+told-goes _ (says_refused r) not = absurd (not r refl)
+
+pub plain-quiet : (s u : State) (seat : ℕ) (event : Event) (answer : Answer) → IsQuiet s seat event answer → IsPlain event (reply_of u answer)
+plain-quiet s u seat _ _ (refuses event r is) = plain-refused event r
+plain-quiet s u seat _ _ (repeats session pool x found same) = record { frees = refl; moves_in = refl; moves_to = refl }
+plain-quiet s u seat _ _ (caps_again session cap x found same) = record { frees = refl; moves_in = refl; moves_to = refl }
+plain-quiet s u seat _ _ (judges session x r answer is says) = plain-check session answer says
+plain-quiet s u seat _ _ (stops_again by target x y r may runs already) = record { frees = refl; moves_in = refl; moves_to = refl }
+plain-quiet s u seat _ _ (tells session x found active) = record { frees = refl; moves_in = refl; moves_to = (told-keeps (told u x.number) (told-is u x.number)).1 }
+
+plain-running : (s : State) (event : Event) (answer : Reply) → IsPlain event answer → still_running s event answer ≡ s.running
+plain-running s event answer plain =
+    ap (λ o. with_moved (moving_in event answer) (without_freed o s.running)) plain.frees ∙ ap (λ o. with_moved o s.running) plain.moves_in
+
+plain-frees : (s : State) (event : Event) (answer : Reply) (query : ℕ) → IsPlain event answer → freed_by s event answer ≢ Some query
+plain-frees s event answer query plain is = let no : None ≡ Some query = sym (ap (option_and_then (query_of s)) plain.frees) ∙ is in cc
+
+-- a query that waits after a change waited before it, or the event submitted it, or let it give way
+abbrev Waits : State → Event → ℕ → Waiter → Type 0
+Waits s event moment w = IsAmong w s.waiting ⊎ (WasSubmitted s event w ⊎ GaveWay s event moment w)
+
+-- What a change does to the running and the waiting queries. One whose grant it gives back waits no more.
+record Turned (s : State) (event : Event) (answer : Reply) (moment : ℕ) (c : State) : Type 0 where
+  pub order : GoOn event answer moment (still_running s event answer) c.running
+  pub whole : (session : ℕ) → freeing event answer ≡ Some session → (query : ℕ) × (freed_by s event answer ≡ Some query)
+  pub freed : (query grant : ℕ) → freed_by s event answer ≡ Some query → released answer ≡ Some grant
+      → (grant_called s.running query ≡ Some grant) × ((w : Waiter) → IsAmong w c.waiting → w.query ≢ query)
+  pub waits : (w : Waiter) → IsAmong w c.waiting → Waits s event moment w
+  pub moved : (pool : Name) → moved_on_to answer ≡ Some pool → used pool (holdings c.running) ≤ cap c.definitions (pool_row c.definitions pool)
+
+-- where the running queries stay as they are, each of them or all but one that is changed where it stands
+turned-goes : (s c : State) (event : Event) (answer : Reply) → IsPlain event answer → GoOn event answer s.clock s.running c.running
+    → ((w : Waiter) → IsAmong w c.waiting → Waits s event s.clock w) → Turned s event answer s.clock c
+turned-goes s c event answer plain order waits = record {
+  order = subst (λ l. GoOn event answer s.clock l c.running) (sym (plain-running s event answer plain)) order;
+  whole = λ session is. absurd (let no : None ≡ Some session = sym plain.frees ∙ is in cc);
+  freed = λ query grant is gives. absurd (plain-frees s event answer query plain is);
+  waits = waits;
+  moved = λ pool is. absurd (let no : None ≡ Some pool = sym plain.moves_to ∙ is in cc);
 }
 
-refused-rest : (s : State) (event : Event) (r : Refusal) → s.running ≡ still_running s event (reply.Refused r)
-refused-rest s (Define statement) r = refl
-refused-rest s (Open user) r = refl
-refused-rest s (SetPool session pool) r = refl
-refused-rest s (Submit session floor) r = refl
-refused-rest s (Poll session) r = refl
-refused-rest s (Finish session) r = refl
-refused-rest s (Close session) r = refl
+turned-plain : (s c : State) (event : Event) (answer : Reply) → IsPlain event answer → c.running ≡ s.running → ((w : Waiter) → IsAmong w c.waiting → Waits s event s.clock w)
+    → Turned s event answer s.clock c
+turned-plain s c event answer plain running waits =
+    turned-goes s c event answer plain (subst (GoOn event answer s.clock s.running) (sym running) (go-all event answer s.clock s.running)) waits
 
-freed-refused : (s : State) (event : Event) (r : Refusal) → (let o : Option ℕ = None in freed_by s event (reply.Refused r) ≡ o)
-freed-refused s (Define statement) r = refl
-freed-refused s (Open user) r = refl
-freed-refused s (SetPool session pool) r = refl
-freed-refused s (Submit session floor) r = refl
-freed-refused s (Poll session) r = refl
-freed-refused s (Finish session) r = refl
-freed-refused s (Close session) r = refl
+-- where a query is submitted
+turned-submitted : (s : State) (session floor : ℕ) (x : Session) (pool : Name) (answer : Reply) → x.number ≡ session → IsPlain (Submit session floor) answer
+    → Turned s (Submit session floor) answer s.clock (submitted s x pool floor).state
+turned-submitted s session floor x pool answer number plain =
+    turned-plain s (submitted s x pool floor).state (Submit session floor) answer plain refl (λ w among. turn w (among-push w (new_waiter s x pool floor) s.waiting among)) where
+      new : WasSubmitted s (Submit session floor) (new_waiter s x pool floor)
+      new = (ap (λ n. Submit n floor) (sym number), refl)
 
-frees-quiet : (s u : State) (seat : ℕ) (event : Event) (answer : Answer) → IsQuiet s seat event answer → Frees s event (reply_of u answer) s
-frees-quiet s u seat _ _ (refuses event r is) = frees-none s event (reply.Refused r) s (freed-refused s event r) (λ n grant is gives. absurd (cc)) (refused-rest s event r) (turned-same s s event refl refl)
-frees-quiet s u seat _ _ (repeats session pool x found same) = frees-none s (SetPool session pool) reply.Set s refl (λ n grant is gives. absurd (cc)) refl (turned-same s s (SetPool session pool) refl refl)
-frees-quiet s u seat _ _ (tells session x found active) = frees-none s (Poll session) (told u x.number) s refl (λ n grant is gives. absurd (cc)) refl (turned-same s s (Poll session) refl refl)
+      turn : (w : Waiter) → IsAmong w s.waiting ⊎ (w ≡ new_waiter s x pool floor) → Waits s (Submit session floor) s.clock w
+      turn w (inl before) = inl before
+      turn w (inr is) = inr (inl (subst (WasSubmitted s (Submit session floor)) (sym is) new))
 
-frees-change : (s u : State) (seat : ℕ) (event : Event) (c : Change) → IsChange s seat event c → IsHealthy s → Frees s event (reply_of u c.answer) c.state
-frees-change s u seat _ _ (defines statement new none accepts) h = frees-none s (Define statement) reply.Defined (defined s new).state refl (λ n grant is gives. absurd (cc)) refl (turned-same s (defined s new).state (Define statement) refl refl)
-frees-change s u seat _ _ (opens user may) h =
-    frees-none s (Open user) (reply.Opened (s.last_session + 1)) (opened s seat user).state refl (λ n grant is gives. absurd (cc)) refl (turned-same s (opened s seat user).state (Open user) refl refl)
-frees-change s u seat _ _ (chooses session pool x found may differs) h =
-    frees-none s (SetPool session pool) reply.Set (choice_made s x pool).state refl (λ n grant is gives. absurd (cc)) refl (turned-same s (choice_made s x pool).state (SetPool session pool) refl refl)
-frees-change s u seat _ _ (submits session floor x found may) h =
-    let pool = session_pool s.definitions x in
-    let c = submitted s x pool floor in
-    let number : session ≡ x.number = sym (session_of-is s seat session x found).number in
-    frees-none s (Submit session floor) (told u x.number) c.state refl (λ n grant is gives. absurd (cc)) refl
-    (turned-submitted s c.state (Submit session floor) (new_waiter s x pool floor) refl refl (ap (λ n. Submit n floor) number, refl))
-frees-change s u seat _ _ (collects session x end found ended) h =
-    frees-none s (Poll session) (reply.Ended end) (collected s x end).state refl (λ n grant is gives. absurd (cc)) refl (turned-same s (collected s x end).state (Poll session) refl refl)
-frees-change s u seat _ _ (finishes session x found runs) h =
-    let n = x.number in
-    let there = session_of-found s seat session x found in
-    let r = runner_found s.sessions s.waiting s.running n h.in_phase (ap is_running (phase_of-found n s.sessions x there) ∙ runs) in
-    let few : count_by (λ (y : Runner). eqb y.session n) s.running ≤ 1 = omega (arith, h.in_phase.runs n, one_if-most (is_running (phase_of s.sessions n))) in
-    let number : n ≡ session = (session_of-is s seat session x found).number in
-    let freed : query_of s session ≡ Some r.0.query = ap (λ k. query_of s k) (sym number) ∙ ap (option_map (λ (y : Runner). y.query)) r.1 in
-    let grant : grant_of s.running n ≡ r.0.grant = grant_of-found s.running n r.0 r.1 in
-    let turned = turned-finished s (finished s x).state (Finish session) n r.0 refl refl r.1 few h.numbered in
+-- where a session's running query is finished
+turned-finished : (s : State) (session : ℕ) (x : Session) (r : Runner) → x.number ≡ session → runner_of s.running session ≡ Some r → AreNumbered s.last_query s.waiting s.running
+    → Turned s (Finish session) (reply.Released (grant_of s.running x.number)) s.clock (finished s x).state
+turned-finished s session x r number runs numbered =
+    let event = Finish session in
+    let answer : Reply = reply.Released (grant_of s.running x.number) in
+    let freed : query_of s session ≡ Some r.query = query_of-found s session (Some r) runs in
+    let grant : grant_of s.running x.number ≡ r.grant = ap (grant_of s.running) number ∙ grant_of-found s.running session r runs in
     record {
-      turned = subst (Turned s (finished s x).state (Finish session)) (sym freed) turned;
-      whole = λ m grant is gives. (r.0.query, freed);
-      rest = ap (λ k. without_runner k s.running) number;
-      says = λ query is.
-          let same : r.0.query ≡ query = let e : Some r.0.query ≡ Some query = sym freed ∙ is in cc in
-          ap (λ k. grant_called s.running k) (sym same) ∙ ap (option_map (λ (y : Runner). y.grant)) (runner-number s n r.0 r.1 h.numbered) ∙ ap (λ g. Some g) (sym grant);
+      order = subst (λ k. GoOn event answer s.clock (without_runner session s.running) (without_runner k s.running)) (sym number) (go-all event answer s.clock (without_runner session s.running));
+      whole = λ n is. (r.query, freed);
+      freed = λ query given is gives.
+          let same : r.query ≡ query = let e : Some r.query ≡ Some query = sym freed ∙ is in cc in
+          let all : r.grant ≡ given = sym grant ∙ (let e : Some (grant_of s.running x.number) ≡ Some given = gives in cc) in
+          let called : runner_called s.running query ≡ Some r = ap (runner_called s.running) (sym same) ∙ runner-number s session r runs numbered in (
+            ap (option_map (λ (y : Runner). y.grant)) called ∙ ap (λ g. Some g) all,
+            λ w among. runs-or-waits s query r w numbered called among,
+          );
+      waits = λ w among. inl among;
+      moved = λ pool is. absurd (cc);
     }
-frees-change s u seat _ _ (closes session x found rests) h =
-    frees-none s (Close session) reply.Closed (closed s x).state refl (λ n grant is gives. absurd (cc)) refl (turned-closed s (closed s x).state (Close session) x.number refl refl)
+
+-- where it gives way
+turned-gave_way : (s : State) (session : ℕ) (r : Runner) (pool : Name) (answer : Reply) → runner_of s.running session ≡ Some r → r.leaving ≡ Some pool
+    → is_refused answer ≡ false → IsTold answer → AreNumbered s.last_query s.waiting s.running → Turned s (GiveWay session) answer s.clock (gave_way s r pool)
+turned-gave_way s session r pool answer runs leaves goes told numbered =
+    let event = GiveWay session in
+    let number : r.session ≡ session = session-found s.running session r runs in
+    let frees : freeing event answer ≡ Some session = ap (λ b. cond b None (Some session)) goes in
+    let freed : freed_by s event answer ≡ Some r.query = ap (option_and_then (query_of s)) frees ∙ query_of-found s session (Some r) runs in
+    let still : without_runner r.session s.running ≡ still_running s event answer =
+    ap (λ k. without_runner k s.running) number ∙ ap (λ o. without_freed o s.running) (sym frees) in
+    record {
+      order = subst (λ l. GoOn event answer s.clock l (without_runner r.session s.running)) still (go-all event answer s.clock (without_runner r.session s.running));
+      whole = λ n is. (r.query, freed);
+      freed = λ query grant is gives. absurd (let no : None ≡ Some grant = sym (told-keeps answer told).0 ∙ gives in cc);
+      waits = λ w among. turn w number (among-push w (requeued s.clock pool r) s.waiting among);
+      moved = λ other is. absurd (let no : None ≡ Some other = sym (told-keeps answer told).1 ∙ is in cc);
+    } where
+      turn : (w : Waiter) → r.session ≡ session → IsAmong w s.waiting ⊎ (w ≡ requeued s.clock pool r) → Waits s (GiveWay session) s.clock w
+      turn w number (inl before) = inl before
+      turn w number (inr is) = inr (inr (subst (GaveWay s (GiveWay session) s.clock) (sym is) (record {
+        runner = r;
+        ran = runner-number s session r runs numbered;
+        event_is = ap (λ n. GiveWay n) (sym number);
+        left = leaves;
+        is = refl;
+      })))
+
+-- where it moves on
+turned-moved_on : (s : State) (session : ℕ) (r : Runner) (pool : Name) → runner_of s.running session ≡ Some r → takes s r pool ≡ true
+    → Turned s (Check session) (reply.MovedOn pool) s.clock (moved_on s r pool)
+turned-moved_on s session r pool runs taken =
+    let event = Check session in
+    let answer : Reply = reply.MovedOn pool in
+    let number : r.session ≡ session = session-found s.running session r runs in
+    let still : without_runner r.session s.running ++ r ∷ [] ≡ still_running s event answer =
+    ap (λ k. without_runner k s.running ++ r ∷ []) number
+    ∙ ap (λ (o : Option Runner). without_runner session s.running ++ elim o [ Some y ↦ y ∷ [] | None ↦ [] ]) (sym runs) in
+    record {
+      order =
+          subst (λ l. GoOn event answer s.clock l (moved_on s r pool).running) still
+          (go-last event answer s.clock (without_runner r.session s.running) r (moved s.clock pool r) (Moves pool (ap (λ n. Check n) (sym number)) refl));
+      whole = λ n is. absurd (cc);
+      freed = λ query grant is gives. absurd (cc);
+      waits = λ w among. inl among;
+      moved = λ to is.
+          let same : pool ≡ to = cc in
+          subst (λ p. used p (holdings (moved_on s r pool).running) ≤ cap s.definitions (pool_row s.definitions p)) same (moved-within-cap s r pool taken);
+    }
+
+-- where it is to give way, and where it is to stop
+turned-asked : (s : State) (session : ℕ) (r : Runner) (pool : Name) → r.session ≡ session → Turned s (Check session) (reply.GiveWay pool) s.clock (asked_to_leave s r pool)
+turned-asked s session r pool number =
+    let event = Check session in
+    let answer : Reply = reply.GiveWay pool in
+    turned-goes s (asked_to_leave s r pool) event answer (record { frees = refl; moves_in = refl; moves_to = refl })
+    (go-first event answer s.clock (λ y. eqb y.session r.session) (leaving_for pool) s.running
+    (λ y here. Leaves pool (ap (λ n. Check n) (sym number ∙ sym (eqb-true y.session r.session here))) refl))
+    (λ w among. inl among)
+
+turned-stopped : (s : State) (by target : ℕ) (r : Runner) → r.session ≡ target → Turned s (Cancel by target) reply.Cancelled s.clock (asked_to_stop s r)
+turned-stopped s by target r number =
+    let event = Cancel by target in
+    turned-goes s (asked_to_stop s r) event reply.Cancelled (record { frees = refl; moves_in = refl; moves_to = refl })
+    (go-first event reply.Cancelled s.clock (λ y. eqb y.session r.session) stopping s.running
+    (λ y here. Stops by (ap (λ n. Cancel by n) (sym number ∙ sym (eqb-true y.session r.session here))) refl))
+    (λ w among. inl among)
+
+turned-change : (s : State) (seat : ℕ) (event : Event) (c : Change) → IsChange s seat event c → IsHealthy s → Turned s event (reply_of (settled c.state) c.answer) s.clock c.state
+turned-change s seat _ _ (defines statement new dropped_none accepts) h =
+    turned-plain s (defined s new).state (Define statement) reply.Defined (record { frees = refl; moves_in = refl; moves_to = refl }) refl (λ w among. inl among)
+turned-change s seat _ _ (opens user may) h =
+    turned-plain s (opened s seat user).state (Open user) (reply.Opened (s.last_session + 1)) (record { frees = refl; moves_in = refl; moves_to = refl }) refl (λ w among. inl among)
+turned-change s seat _ _ (chooses session pool x found may differs) h =
+    turned-plain s (choice_made s x pool).state (SetPool session pool) reply.Set (record { frees = refl; moves_in = refl; moves_to = refl }) refl (λ w among. inl among)
+turned-change s seat _ _ (caps session cap x found room differs) h =
+    turned-plain s (cap_made s x (within_moments cap)).state (SetCap session cap) reply.Set (record { frees = refl; moves_in = refl; moves_to = refl }) refl (λ w among. inl among)
+turned-change s seat _ _ (submits session floor x found may) h =
+    let pool = session_pool s.definitions x in
+    let t = settled (submitted s x pool floor).state in
+    turned-submitted s session floor x pool (told t x.number) (session_of-is s seat session x found).number
+    (record { frees = refl; moves_in = refl; moves_to = (told-keeps (told t x.number) (told-is t x.number)).1 })
+turned-change s seat _ _ (collects session x end found ended) h =
+    turned-plain s (collected s x end).state (Poll session) (reply.Ended end) (record { frees = refl; moves_in = refl; moves_to = refl }) refl (λ w among. inl among)
+turned-change s seat _ _ (moves_on session x r pool is taken) h =
+    let number = (session_of-is s seat session x is.found).number in
+    turned-moved_on s session r pool (ap (runner_of s.running) (sym number) ∙ is.runs) taken
+turned-change s seat _ _ (asks session x r pool is) h =
+    turned-asked s session r pool (session-found s.running x.number r is.runs ∙ (session_of-is s seat session x is.found).number)
+turned-change s seat _ _ (gives_way session x r pool found runs leaves) h =
+    let c = gave_way s r pool in
+    let number = (session_of-is s seat session x found).number in
+    let own : r.session ≡ x.number = session-found s.running x.number r runs in
+    let called : session_called c.sessions r.session ≡ Some (phased phase.Waiting x) =
+    called-with_same r.session phase.Waiting s.sessions
+    ∙ ap (option_map (phased phase.Waiting)) (ap (session_called s.sessions) own ∙ session_of-found s seat session x found) in
+    let after = unsettled-changed s seat (GiveWay session) _ tt h (gives_way session x r pool found runs leaves) in
+    let told_of = told-settled c r.session (phased phase.Waiting x) after.in_phase called refl in
+    let told_is = told-is (settled c) r.session in
+    turned-gave_way s session r pool (told (settled c) r.session) (ap (runner_of s.running) (sym number) ∙ runs) leaves
+    (told-goes (told (settled c) r.session) told_is told_of) told_is h.numbered
+turned-change s seat _ _ (finishes session x found runs) h =
+    let there = session_of-found s seat session x found in
+    let number = (session_of-is s seat session x found).number in
+    let r = runner_found s.sessions s.waiting s.running x.number h.in_phase (ap is_running (phase_of-found x.number s.sessions x there) ∙ runs) in
+    turned-finished s session x r.0 number (ap (runner_of s.running) (sym number) ∙ r.1) h.numbered
+turned-change s seat _ _ (withdraws by target x y w may waits) h =
+    turned-plain s (withdrawn s w).state (Cancel by target) reply.Cancelled (record { frees = refl; moves_in = refl; moves_to = refl }) refl
+    (λ z among. inl (among-without (λ o. eqb o.session w.session) z s.waiting among))
+turned-change s seat _ _ (stops by target x y r may runs first) h =
+    turned-stopped s by target r
+    (session-found s.running y.number r runs ∙ eqb-true y.number target (found_passes (λ (z : Session). eqb z.number target) y s.sessions may.called))
+turned-change s seat _ _ (closes session x found rests) h =
+    turned-plain s (closed s x).state (Close session) reply.Closed (record { frees = refl; moves_in = refl; moves_to = refl }) refl
+    (λ w among. inl (among-without (λ o. eqb o.session x.number) w s.waiting among))
+
+turned-tried : (s : State) (seat : ℕ) (event : Event) (c : Change) → IsTried s seat event c → IsHealthy s → Turned s event (reply_of (settled c.state) c.answer) s.clock c.state
+turned-tried s seat event _ (stays answer still) h =
+    turned-plain s s event (reply_of (settled s) answer) (plain-quiet s (settled s) seat event answer still) refl (λ w among. inl among)
+turned-tried s seat event _ (changes c is loud) h = turned-change s seat event c is h
 
 -- who runs since the change, or from before it
 behind-found : (c : State) (query : ℕ) (r : Runner) → (let n : Option Runner = None in runner_called c.running query ≡ n) → runner_called (settled c).running query ≡ Some r → Came c r
@@ -311,14 +574,14 @@ gone-settled c query none waits_not = turn (runner_called (settled c).running qu
       absurd (waits_not came.waiter came.among (came-number c query r (settled c).running came found))
 
 -- a state that runs what has settled
-pub record RunsAs (t new : State) : Type 0 where
+record RunsAs (t new : State) : Type 0 where
   pub running : new.running ≡ t.running
   pub definitions : new.definitions ≡ t.definitions
   pub clock : new.clock ≡ t.clock
 
-waited-as : (t : State) (event : Event) (w : Waiter) → AreNumbered t.last_query t.waiting t.running → IsAmong w t.waiting ⊎ WasSubmitted t event w → HasWaited t event w
-waited-as t event w numbered (inl among) = inl (number-found t.last_query t.waiting t.running w numbered among)
-waited-as t event w numbered (inr new) = inr new
+waited-as : (s : State) (event : Event) (moment : ℕ) (w : Waiter) → AreNumbered s.last_query s.waiting s.running → Waits s event moment w → HasWaited s event moment w
+waited-as s event moment w numbered (inl among) = inl (number-found s.last_query s.waiting s.running w numbered among)
+waited-as s event moment w numbered (inr new) = inr new
 
 -- a query begins to run by the definitions and the clock alone
 started-as : (c new : State) (w : Waiter) → new.definitions ≡ c.definitions → new.clock ≡ c.clock → started c w ≡ started new w
@@ -326,10 +589,9 @@ started-as c new w definitions clock =
     ap (λ d. let u : State = record c { definitions = d } in started u w) (sym definitions)
     ∙ ap (λ k. let u : State = record c { definitions = new.definitions; clock = k } in started u w) (sym clock)
 
-admitted-settled : (t c new : State) (event : Event) (query : ℕ) (r : Runner) → RunsAs (settled c) new → AreNumbered t.last_query t.waiting t.running
-    → ((w : Waiter) → IsAmong w c.waiting → IsAmong w t.waiting ⊎ WasSubmitted t event w)
-    → (let n : Option Runner = None in runner_called c.running query ≡ n) → runner_called (settled c).running query ≡ Some r → IsAdmitted t new event r
-admitted-settled t c new event query r like numbered waits none found =
+admitted-settled : (s c new : State) (event : Event) (query : ℕ) (r : Runner) → RunsAs (settled c) new → ((w : Waiter) → IsAmong w c.waiting → HasWaited s event new.clock w)
+    → (let n : Option Runner = None in runner_called c.running query ≡ n) → runner_called (settled c).running query ≡ Some r → IsAdmitted s new event r
+admitted-settled s c new event query r like waited none found =
     let came = behind-found c query r none found in
     let rest = rest-settled c in
     let definitions : new.definitions ≡ c.definitions = like.definitions ∙ rest.definitions in
@@ -337,7 +599,7 @@ admitted-settled t c new event query r like numbered waits none found =
     let within = within-settled c query r none found in
     record {
       waiter = came.waiter;
-      waited = waited-as t event came.waiter numbered (waits came.waiter came.among);
+      waited = waited came.waiter came.among;
       is = came.is ∙ started-as c new came.waiter definitions clock;
       within =
           subst (λ d. used r.pool (holdings new.running) ≤ cap d (pool_row d r.pool)) (sym definitions)
@@ -345,47 +607,33 @@ admitted-settled t c new event query r like numbered waits none found =
     }
 
 -- so an event that settles keeps the grants
-keeps-settled : (t c new : State) (event : Event) (answer : Reply) → Frees t event answer c → AreNumbered t.last_query t.waiting t.running → RunsAs (settled c) new
-    → KeepsGrants t new event answer
-keeps-settled t c new event answer frees numbered like =
+keeps-settled : (s c new : State) (event : Event) (answer : Reply) → Turned s event answer new.clock c → AreNumbered s.last_query s.waiting s.running → RunsAs (settled c) new
+    → KeepsGrants s new event answer
+keeps-settled s c new event answer turned numbered like =
     let come = come-settled c in
-    let turned = frees.turned in
+    let still = still_running s event answer in
     record {
       kept = λ query r was other.
-          ap (λ l. runner_called l query) (like.running ∙ come.split)
-          ∙ found-front (λ (x : Runner). eqb x.query query) r c.running come.more (turned.kept query r was other);
-      freed = λ query is. (
-        frees.says query is,
-        ap (λ l. grant_called l query) like.running
-            ∙ ap (option_map (λ (x : Runner). x.grant)) (gone-settled c query (turned.gone query is) (turned.waits_not query is)),
-      );
-      whole = frees.whole;
-      order = (come.more, like.running ∙ come.split ∙ ap (λ l. l ++ come.more) frees.rest);
-      admitted = λ query r found none.
-          admitted-settled t c new event query r like numbered turned.waits (turned.none query none)
+          let on = go-found event answer new.clock query r still c.running turned.order (still-kept s event answer query numbered other ∙ was) in (
+            on.0,
+            ap (λ l. runner_called l query) (like.running ∙ come.split) ∙ found-front (λ (x : Runner). eqb x.query query) on.0 c.running come.more on.1,
+            on.2,
+          );
+      freed = λ query grant is gives.
+          let f = turned.freed query grant is gives in
+          let gone = go-none event answer new.clock query still c.running turned.order (still-gone s event answer query numbered (inr is)) in
+          (f.0, ap (λ l. grant_called l query) like.running ∙ ap (option_map (λ (x : Runner). x.grant)) (gone-settled c query gone f.1));
+      whole = turned.whole;
+      order = (c.running, come.more, like.running ∙ come.split, turned.order);
+      admitted = λ query r found gone.
+          admitted-settled s c new event query r like (λ w among. waited-as s event new.clock w numbered (turned.waits w among))
+          (go-none event answer new.clock query still c.running turned.order (still-gone s event answer query numbered gone))
           (ap (λ l. runner_called l query) (sym like.running) ∙ found);
+      moved = λ pool is.
+          subst (λ d. used pool (holdings new.running) ≤ cap d (pool_row d pool)) (sym like.definitions)
+          (subst (λ (l : List Runner). used pool (holdings l) ≤ cap (settled c).definitions (pool_row (settled c).definitions pool)) (sym like.running)
+          (stays-within c pool (turned.moved pool is)));
     }
-
--- what is freed hangs on the running queries alone
-freed-same : (s t : State) (event : Event) (answer : Reply) → t.running ≡ s.running → freed_by t event answer ≡ freed_by s event answer
-freed-same s t (Define statement) answer same = refl
-freed-same s t (Open user) answer same = refl
-freed-same s t (SetPool session pool) answer same = refl
-freed-same s t (Submit session floor) answer same = refl
-freed-same s t (Poll session) answer same = refl
-freed-same s t (Finish session) answer same =
-    ap (λ (l : List Runner). option_and_then (λ grant. option_map (λ (r : Runner). r.query) (runner_of l session)) (released answer)) same
-freed-same s t (Close session) answer same = refl
-
-rest-same : (s t : State) (event : Event) (answer : Reply) → t.running ≡ s.running → still_running t event answer ≡ still_running s event answer
-rest-same s t (Define statement) answer same = same
-rest-same s t (Open user) answer same = same
-rest-same s t (SetPool session pool) answer same = same
-rest-same s t (Submit session floor) answer same = same
-rest-same s t (Poll session) answer same = same
-rest-same s t (Finish session) answer same =
-    ap (λ (l : List Runner). elim (released answer) [ Some grant ↦ without_runner session l | None ↦ l ]) same
-rest-same s t (Close session) answer same = same
 
 -- deadlines leave the running queries as they were, and none waits that did not
 pub record WaitsLess (s t : State) : Type 0 where
@@ -403,48 +651,67 @@ less-found s at =
     })
     (moved_to s at) (record { running = refl; last_query = refl; waits = λ w among. among })
 
-waited-before : (s t : State) (event : Event) (w : Waiter) → WaitsLess s t → AreNumbered s.last_query s.waiting s.running → HasWaited t event w → HasWaited s event w
-waited-before s t event w less numbered (inl h) =
+waited-before : (s t : State) (event : Event) (moment : ℕ) (w : Waiter) → WaitsLess s t → AreNumbered s.last_query s.waiting s.running → HasWaited t event moment w
+    → HasWaited s event moment w
+waited-before s t event moment w less numbered (inl h) =
     inl (number-found s.last_query s.waiting s.running w numbered (less.waits w (found_among (λ x. eqb x.query w.query) w t.waiting h)))
-waited-before s t event w less numbered (inr new) = inr (new.0, new.1 ∙ ap (λ n. n + 1) less.last_query)
+waited-before s t event moment w less numbered (inr (inl new)) = inr (inl (new.0, new.1 ∙ ap (λ n. n + 1) less.last_query))
+waited-before s t event moment w less numbered (inr (inr gave)) = inr (inr (record {
+  runner = gave.runner;
+  ran = ap (λ l. runner_called l w.query) (sym less.running) ∙ gave.ran;
+  event_is = gave.event_is;
+  left = gave.left;
+  is = gave.is;
+}))
+
+-- what is freed and who runs on hangs on the running queries alone
+freed-same : (s t : State) (event : Event) (answer : Reply) → t.running ≡ s.running → freed_by t event answer ≡ freed_by s event answer
+freed-same s t event answer same =
+    ap (λ (l : List Runner). option_and_then (λ n. option_map (λ (r : Runner). r.query) (runner_of l n)) (freeing event answer)) same
 
 keeps-found : (s t new : State) (event : Event) (answer : Reply) → WaitsLess s t → AreNumbered s.last_query s.waiting s.running → KeepsGrants t new event answer
     → KeepsGrants s new event answer
 keeps-found s t new event answer less numbered h =
     let same = freed-same s t event answer less.running in
+    let still : still_running t event answer ≡ still_running s event answer =
+    ap (λ l. with_moved (moving_in event answer) (without_freed (freeing event answer) l)) less.running in
     record {
       kept = λ query r was other. h.kept query r (ap (λ l. runner_called l query) less.running ∙ was) (λ is. other (sym same ∙ is));
-      freed = λ query is. let f = h.freed query (same ∙ is) in (ap (λ l. grant_called l query) (sym less.running) ∙ f.0, f.1);
-      whole = λ session grant is gives. let f = h.whole session grant is gives in (f.0, sym same ∙ f.1);
-      order = (h.order.0, h.order.1 ∙ ap (λ l. l ++ h.order.0) (rest-same s t event answer less.running));
-      admitted = λ query r found none.
-          let a = h.admitted query r found (ap (λ l. runner_called l query) less.running ∙ none) in
-          record { waiter = a.waiter; waited = waited-before s t event a.waiter less numbered a.waited; is = a.is; within = a.within };
-    }
+      freed = λ query grant is gives. let f = h.freed query grant (same ∙ is) gives in (ap (λ l. grant_called l query) (sym less.running) ∙ f.0, f.1);
+      whole = λ session is. let f = h.whole session is in (f.0, sym same ∙ f.1);
+      order = (h.order.0, h.order.1, h.order.2, subst (λ l. GoOn event answer new.clock l h.order.0) still h.order.3);
+      admitted = λ query r found gone.
+          let a = h.admitted query r found (gone-before query gone) in
+          record { waiter = a.waiter; waited = waited-before s t event new.clock a.waiter less numbered a.waited; is = a.is; within = a.within };
+      moved = h.moved;
+    } where
+      gone-before : (query : ℕ) → (runner_called s.running query ≡ None) ⊎ (freed_by s event answer ≡ Some query)
+          → (runner_called t.running query ≡ None) ⊎ (freed_by t event answer ≡ Some query)
+      gone-before query (inl none) = inl (ap (λ l. runner_called l query) less.running ∙ none)
+      gone-before query (inr freed) = inr (freed-same s t event answer less.running ∙ freed)
 
 -- an event that changes nothing keeps them
-keeps-same : (s : State) (event : Event) (answer : Reply) → (let o : Option ℕ = None in freed_by s event answer ≡ o) → IsNoFinish event answer
-    → s.running ≡ still_running s event answer → KeepsGrants s s event answer
-keeps-same s event answer none no_finish rest = record {
-  kept = λ query r was other. was;
-  freed = λ query is. absurd (let e : None ≡ Some query = sym none ∙ is in cc);
-  whole = λ session grant is gives. absurd (no_finish session grant is gives);
-  order = ([], rest ∙ sym (append-nil (still_running s event answer)));
-  admitted = λ query r found gone. absurd (let e : Some r ≡ None = sym found ∙ gone in cc);
-}
-
-keeps-quiet : (s t u : State) (seat : ℕ) (event : Event) (answer : Answer) → IsQuiet t seat event answer → KeepsGrants s s event (reply_of u answer)
-keeps-quiet s t u seat _ _ (refuses event r is) = keeps-same s event (reply.Refused r) (freed-refused s event r) (λ n grant is gives. absurd (cc)) (refused-rest s event r)
-keeps-quiet s t u seat _ _ (repeats session pool x found same) = keeps-same s (SetPool session pool) reply.Set refl (λ n grant is gives. absurd (cc)) refl
-keeps-quiet s t u seat _ _ (tells session x found active) = keeps-same s (Poll session) (told u x.number) refl (λ n grant is gives. absurd (cc)) refl
+keeps-same : (s : State) (event : Event) (answer : Reply) → IsPlain event answer → KeepsGrants s s event answer
+keeps-same s event answer plain = record {
+  kept = λ query r was other. (r, was, Stays);
+  freed = λ query grant is gives. absurd (plain-frees s event answer query plain is);
+  whole = λ session is. absurd (let no : None ≡ Some session = sym plain.frees ∙ is in cc);
+  order = (
+    s.running,
+    [],
+    sym (append-nil s.running),
+    subst (λ l. GoOn event answer s.clock l s.running) (sym (plain-running s event answer plain)) (go-all event answer s.clock s.running),
+  );
+  admitted = λ query r found gone. absurd (new query r found gone);
+  moved = λ pool is. absurd (let no : None ≡ Some pool = sym plain.moves_to ∙ is in cc);
+} where
+  new : (query : ℕ) (r : Runner) → runner_called s.running query ≡ Some r → (runner_called s.running query ≡ None) ⊎ (freed_by s event answer ≡ Some query) → ⊥
+  new query r found (inl none) = let no : Some r ≡ None = sym found ∙ none in cc
+  new query r found (inr freed) = plain-frees s event answer query plain freed
 
 keeps-still : (s t : State) (seat : ℕ) (event : Event) (c : Change) → IsTried t seat event c → c.changed ≡ false → KeepsGrants s s event (reply_of c.state c.answer)
-keeps-still s t seat event _ (stays answer still) plain = keeps-quiet s t t seat event answer still
+keeps-still s t seat event _ (stays answer still) plain = keeps-same s event (reply_of t answer) (plain-quiet t t seat event answer still)
 keeps-still s t seat event _ (changes c is loud) plain = absurd (false≢true (sym plain ∙ loud))
-
-tried-frees : (t u : State) (seat : ℕ) (event : Event) (c : Change) → IsTried t seat event c → IsHealthy t → Frees t event (reply_of u c.answer) c.state
-tried-frees t u seat event _ (stays answer still) h = frees-quiet t u seat event answer still
-tried-frees t u seat event _ (changes c is loud) h = frees-change t u seat event c is h
 
 pub grants-step : (s : State) (seat at : ℕ) (event : Event) → IsHealthy s → KeepsGrants s (step s seat at event).state event (step s seat at event).reply
 grants-step s seat at event h =
@@ -455,14 +722,16 @@ grants-step s seat at event h =
     outcome-turn (λ o. KeepsGrants s o.state event o.reply) s seat event c (has_due s at || c.changed)
     (λ settles.
     let u = settled c.state in
+    let answer = reply_of u c.answer in
     let beside = (beside-answered u c.answer).beside in
     let new = (entered seat event u c.answer).state in
-    keeps-found s t new event (reply_of u c.answer) (less-found s at) h.numbered
-    (keeps-settled t c.state new event (reply_of u c.answer) (tried-frees t u seat event c is there) there.numbered
-    (record {
+    let like : RunsAs u new = record {
       running = ap (λ (v : State). v.running) beside;
       definitions = ap (λ (v : State). v.definitions) beside;
       clock = ap (λ (v : State). v.clock) beside;
-    }))
+    } in
+    let moment : new.clock ≡ t.clock = like.clock ∙ (rest-settled c.state).clock ∙ (rest-tried t seat event c is).clock in
+    keeps-found s t new event answer (less-found s at) h.numbered
+    (keeps-settled t c.state new event answer (subst (λ k. Turned t event answer k c.state) (sym moment) (turned-tried t seat event c is there)) there.numbered like)
     )
     (λ still. keeps-still s t seat event c is (or_right_false (has_due s at) c.changed still))

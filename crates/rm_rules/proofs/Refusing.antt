@@ -59,7 +59,7 @@ told-live s n h live = turn (session_called s.sessions n) refl where
       told-phase s n x.phase (ap is_idle (sym is) ∙ live) (h.waits n ∙ ap (λ p. one_if (is_waiting p)) is) (h.runs n ∙ ap (λ p. one_if (is_running p)) is)
 
 -- so is one whose query is still there after settling
-told-settled : (s : State) (n : ℕ) (x : Session) → AreInPhase s.sessions s.waiting s.running → session_called s.sessions n ≡ Some x → is_idle x.phase ≡ false → IsToldOf (told (settled s) n)
+pub told-settled : (s : State) (n : ℕ) (x : Session) → AreInPhase s.sessions s.waiting s.running → session_called s.sessions n ≡ Some x → is_idle x.phase ≡ false → IsToldOf (told (settled s) n)
 told-settled s n x h found live =
     let left = left-settled n x s h (left-self n x s.sessions found) in
     told-live (settled s) n left.in_phase

@@ -5,10 +5,11 @@ use Rattle.std.proofs.lemmas.Bool.{eqb-true, eq-eqb, false≢true}
 use Rattle.std.proofs.lemmas.Bool.Decides.{nat_tests}
 use Rattle.rm_base.specs.declared.entry.Entry.{Entry}
 use Rattle.rm_base.specs.declared.event.Event.{Event}
-use Rattle.rm_base.specs.declared.event.Event.TheVariants.{Define, Open, SetPool, Submit, Poll, Finish, Close}
+use Rattle.rm_base.specs.declared.event.Event.TheVariants.{Submit, GiveWay, Finish}
 use Rattle.rm_base.specs.declared.name.Name.{Name}
 use Rattle.rm_base.specs.declared.refusal.Refusal.{Refusal}
 use Rattle.rm_base.specs.declared.refusal.Refusal.TheVariants as refusal
+use Rattle.rm_base.specs.declared.reply.End.TheVariants as end
 use Rattle.rm_base.specs.declared.reply.Reply.{Reply}
 use Rattle.rm_base.specs.declared.reply.Reply.TheVariants as reply
 use Rattle.rm_rules.specs.declared.answer.Answer.{Answer}
@@ -18,27 +19,29 @@ use Rattle.rm_rules.specs.declared.state.Phase.TheVariants as phase
 use Rattle.rm_rules.specs.declared.state.Session.{Session}
 use Rattle.rm_rules.specs.declared.state.Waiter.{Waiter}
 use Rattle.rm_rules.specs.declared.state.Runner.{Runner}
-use Rattle.rm_rules.specs.State.{State, session_called, session_of, if_opened_by, session_pool, phase_of, with_phase, with_choice, without_session, is_idle, is_running, is_ended, live_queries, runner_of, waiter_of, changed_first}
+use Rattle.rm_rules.specs.State.{State, session_called, session_of, if_opened_by, session_pool, phase_of, with_phase, with_choice, with_cap, without_session, is_idle, is_running, is_ended, live_queries, runner_of, waiter_of, changed_first}
 use Rattle.rm_rules.specs.Refusals.{refused_if, first_refusal, unless_refused, user_missing}
 use Rattle.rm_rules.specs.Settle.{settled}
-use Rattle.rm_rules.specs.Change.{Change, quiet, tried, new_session, usage_missing, size_refusal, journal_full, submitting, submitted, finished, finishing, grant_of}
+use Rattle.rm_rules.specs.Change.{Change, quiet, tried, new_session, within_moments, usage_missing, size_refusal, journal_full, submitting, submitted, finished, finishing, grant_of}
+use Rattle.rm_rules.specs.Moving.{gave_way}
 use Rattle.rm_rules.specs.Answers.{told, told_in_phase, told_running, told_waiting, reply_of, answered}
 use Rattle.rm_rules.specs.Step.{moved_to, has_due, found_at, attempted, step}
 use Rattle.rm_rules.specs.Replay.{IsFormed, replay, IsLegal, own_entries}
 use Rattle.rm_rules.specs.Sessions.{session_in}
 use Rattle.rm_rules.specs.Healthy.{AreInPhase, AreOpened, AreNumbered, IsHealthy}
-use Rattle.rm_rules.specs.Grants.{Run, run_by, run_of, runner_called, query_of, released, freed_by}
-use Rattle.rm_rules.proofs.Taken.{found_passes, found_counted, counted_among, all_found, or_left_false, or_right_false}
-use Rattle.rm_rules.proofs.Found.{found-push, found-split, found-same, find-without, none-left}
+use Rattle.rm_rules.specs.Grants.{Run, run_by, run_of, runner_called, query_of, is_refused, freeing, freed_by}
+use Rattle.rm_rules.proofs.Taken.{found_passes, counted_among, all_found, or_left_false, or_right_false}
+use Rattle.rm_rules.proofs.Found.{found-push, found-split, found-other, find-without, none-left}
 use Rattle.rm_rules.proofs.Changed.{found-changed, other-changed}
 use Rattle.rm_rules.proofs.Phases.{has_number, phased, choosing_pool, phase_in, differ, one_if-most, phase_of-found}
 use Rattle.rm_rules.proofs.Admitting.{one_or_none}
 use Rattle.rm_rules.proofs.Settling.{due-keeps, settled-keeps, rest-due}
-use Rattle.rm_rules.proofs.Changing.{IsTried, stays, changes, refuses, repeats, tells, IsChange, defines, drops, opens, chooses, submits, collects, finishes, closes, session_of-is, session_of-found, tried-is}
+use Rattle.rm_rules.proofs.Verdicts.{IsCheckReply, says_go, says_way, says_end, says_stop}
+use Rattle.rm_rules.proofs.Changing.{IsTried, stays, changes, refuses, repeats, caps_again, judges, stops_again, tells, IsChange, defines, drops, opens, chooses, caps, submits, collects, moves_on, asks, gives_way, finishes, withdraws, stops, closes, session_of-is, session_of-found, tried-is}
 use Rattle.rm_rules.proofs.Stepping.{found-facts, none-found, outcome-turn}
 use Rattle.rm_rules.proofs.Laws.{healthy-step, others-keep}
 use Rattle.rm_rules.proofs.Loud.{next-differs}
-use Rattle.rm_rules.proofs.Grants.{grant_of-found, runner-number, less-found, grants-step}
+use Rattle.rm_rules.proofs.Grants.{IsSameRun, goes-same, grant_of-found, runner-number, session-found, plain-quiet, less-found, grants-step}
 
 -- the session of this number, if it is open, was opened by this seat
 pub record IsOwned (n seat : ℕ) (xs : List Session) : Type 0 where
@@ -72,6 +75,9 @@ owned-with n m seat p xs h = changed-turn (phased p) n m seat xs (eqb m n) refl 
 
 owned-choice : (n m seat : ℕ) (pool : Name) (xs : List Session) → IsOwned n seat xs → IsOwned n seat (with_choice m pool xs)
 owned-choice n m seat pool xs h = changed-turn (choosing_pool pool) n m seat xs (eqb m n) refl (λ z. refl) (λ z. refl) h
+
+owned-cap : (n m seat : ℕ) (cap : Option ℕ) (xs : List Session) → IsOwned n seat xs → IsOwned n seat (with_cap m cap xs)
+owned-cap n m seat cap xs h = changed-turn (λ x. record x { cap_ms = cap }) n m seat xs (eqb m n) refl (λ z. refl) (λ z. refl) h
 
 -- a new session has another number, and one that is gone is found no more
 owned-push : (n seat : ℕ) (x : Session) (xs : List Session) → eqb x.number n ≡ false → IsOwned n seat xs → IsOwned n seat (xs ++ x ∷ [])
@@ -108,12 +114,18 @@ owned-answered s (Collects session) n seat h = turn (is_ended (phase_of s.sessio
 
 owned-changed : (s : State) (by : ℕ) (event : Event) (c : Change) (n seat : ℕ) → IsChange s by event c → AreOpened s.last_session s.sessions → n ≤ s.last_session
     → IsOwned n seat s.sessions → IsOwned n seat c.state.sessions
-owned-changed s by _ _ n seat (defines statement new none accepts) opened given h = h
+owned-changed s by _ _ n seat (defines statement new dropped_none accepts) opened given h = h
 owned-changed s by _ _ n seat (opens user may) opened given h = owned-push n seat (new_session s by user) s.sessions (next-differs s.last_session n given) h
 owned-changed s by _ _ n seat (chooses session pool x found may other) opened given h = owned-choice n x.number seat pool s.sessions h
+owned-changed s by _ _ n seat (caps session cap x found room other) opened given h = owned-cap n x.number seat (within_moments cap) s.sessions h
 owned-changed s by _ _ n seat (submits session floor x found may) opened given h = owned-with n x.number seat phase.Waiting s.sessions h
 owned-changed s by _ _ n seat (collects session x end found ended) opened given h = owned-with n x.number seat phase.Idle s.sessions h
+owned-changed s by _ _ n seat (moves_on session x r pool is taken) opened given h = h
+owned-changed s by _ _ n seat (asks session x r pool is) opened given h = h
+owned-changed s by _ _ n seat (gives_way session x r pool found runs leaves) opened given h = owned-with n r.session seat phase.Waiting s.sessions h
 owned-changed s by _ _ n seat (finishes session x found runs) opened given h = owned-with n x.number seat phase.Idle s.sessions h
+owned-changed s by _ _ n seat (withdraws by_session target x y w may waits) opened given h = owned-with n w.session seat (phase.Ended end.Cancelled) s.sessions h
+owned-changed s by _ _ n seat (stops by_session target x y r may runs first) opened given h = h
 owned-changed s by _ _ n seat (closes session x found rests) opened given h = without-turn n x.number seat s.sessions (eqb x.number n) refl (opened.once x.number) h
 
 owned-tried : (s : State) (by : ℕ) (event : Event) (c : Change) (n seat : ℕ) → IsTried s by event c → AreOpened s.last_session s.sessions → n ≤ s.last_session
@@ -155,6 +167,11 @@ runs-open t n seat r h owned found = turn (session_called t.sessions n) refl whe
   turn None absent = absurd (false≢true (ap is_running (sym (ap phase_in absent)) ∙ session-runs t n r h found))
   turn (Some x) called = (x, session_of-owned t seat n x owned called, ap is_running (sym (phase_of-found n t.sessions x called)) ∙ session-runs t n r h found)
 
+-- what goes on is one run
+same-run : (r x : Runner) → IsSameRun r x → run_by x ≡ run_by r
+same-run r x h =
+    ap (λ q. let run : Run = record { query = q; grant = x.grant } in run) h.query ∙ ap (λ g. let run : Run = record { query = r.query; grant = g } in run) h.grant
+
 -- what a seat knows of the run of its session
 pub record IsRun (s : State) (seat session : ℕ) (run : Run) : Type 0 where
   pub opener : Session
@@ -190,26 +207,6 @@ given-opened s seat n x found opened =
     let is = session_of-is s seat n x found in
     omega (arith, is.number, within x.number s.last_session (all_found (λ z. leb z.number s.last_session) (has_number n) s.sessions x opened.given is.called))
 
--- what frees a query: a Finish of its session, which is answered with a grant
-record IsFreed (s : State) (event : Event) (answer : Reply) (query : ℕ) : Type 0 where
-  pub session : ℕ
-  pub event_is : event ≡ Finish session
-  pub query_is : query_of s session ≡ Some query
-  pub grant : ℕ
-  pub answers : released answer ≡ Some grant
-
-freed-is : (s : State) (event : Event) (answer : Reply) (query : ℕ) → freed_by s event answer ≡ Some query → IsFreed s event answer query
-freed-is s (Define statement) answer query is = absurd (cc)
-freed-is s (Open user) answer query is = absurd (cc)
-freed-is s (SetPool session pool) answer query is = absurd (cc)
-freed-is s (Submit session floor) answer query is = absurd (cc)
-freed-is s (Poll session) answer query is = absurd (cc)
-freed-is s (Finish session) answer query is = turn (released answer) refl is where
-  turn : (o : Option ℕ) → released answer ≡ o → option_and_then (λ grant. query_of s session) o ≡ Some query → IsFreed s (Finish session) answer query
-  turn None e f = absurd (cc)
-  turn (Some grant) e f = record { session = session; event_is = refl; query_is = f; grant = grant; answers = e }
-freed-is s (Close session) answer query is = absurd (cc)
-
 -- the query of a run is that of its session alone
 one-session : (s : State) (n m : ℕ) (r : Runner) (o : Option Runner) → AreNumbered s.last_query s.waiting s.running → runner_of s.running n ≡ Some r → runner_of s.running m ≡ o
     → option_map (λ (z : Runner). z.query) o ≡ Some r.query → m ≡ n
@@ -221,63 +218,94 @@ one-session s n m r (Some z) numbered found other is =
     sym (eqb-true z.session m (found_passes (λ (x : Runner). eqb x.session m) z s.running other)) ∙ ap (λ (x : Runner). x.session) same
     ∙ eqb-true r.session n (found_passes (λ (x : Runner). eqb x.session n) r s.running found)
 
--- a Finish that is answered with a grant was of a session of its seat
-finish-turn : (t u : State) (seat session grant : ℕ) (c : Change) → IsTried t seat (Finish session) c → released (reply_of u c.answer) ≡ Some grant
-    → (x : Session) × (session_of t seat session ≡ Some x)
-finish-turn t u seat session grant _ (stays _ (refuses _ r is)) e = absurd (cc)
-finish-turn t u seat session grant _ (changes _ (finishes _ x found runs) loud) e = (x, found)
+-- an event that takes the grant of a session's query is its seat's: it finishes the query, or lets it give way
+record IsFreedBy (t : State) (seat : ℕ) (event : Event) (session : ℕ) : Type 0 where
+  pub event_is : (event ≡ Finish session) ⊎ (event ≡ GiveWay session)
+  pub opener : Session
+  pub found : session_of t seat session ≡ Some opener
 
-finish-own : (s : State) (seat at session grant : ℕ) → released (step s seat at (Finish session)).reply ≡ Some grant → (x : Session) × (session_of (found_at s at) seat session ≡ Some x)
-finish-own s seat at session grant =
+way-turn : (m session : ℕ) (b : Bool) → cond b None (Some m) ≡ Some session → m ≡ session
+way-turn m session true is = absurd (cc)
+way-turn m session false is = cc
+
+freed-by : (t u : State) (seat session : ℕ) (event : Event) (c : Change) → IsTried t seat event c → freeing event (reply_of u c.answer) ≡ Some session → IsFreedBy t seat event session
+freed-by t u seat session event _ (stays answer still) is = absurd (let no : None ≡ Some session = sym (plain-quiet t u seat event answer still).frees ∙ is in cc)
+freed-by t u seat session _ _ (changes _ (defines statement new dropped_none accepts) loud) is = absurd (cc)
+freed-by t u seat session _ _ (changes _ (opens user may) loud) is = absurd (cc)
+freed-by t u seat session _ _ (changes _ (chooses m pool x found may other) loud) is = absurd (cc)
+freed-by t u seat session _ _ (changes _ (caps m cap x found room other) loud) is = absurd (cc)
+freed-by t u seat session _ _ (changes _ (submits m floor x found may) loud) is = absurd (cc)
+freed-by t u seat session _ _ (changes _ (collects m x end found ended) loud) is = absurd (cc)
+freed-by t u seat session _ _ (changes _ (moves_on m x r pool checked taken) loud) is = absurd (cc)
+freed-by t u seat session _ _ (changes _ (asks m x r pool checked) loud) is = absurd (cc)
+freed-by t u seat session _ _ (changes _ (gives_way m x r pool found runs leaves) loud) is =
+    let same : m ≡ session = way-turn m session (is_refused (told u r.session)) is in
+    record { event_is = inr (ap (λ n. GiveWay n) same); opener = x; found = ap (session_of t seat) (sym same) ∙ found }
+freed-by t u seat session _ _ (changes _ (finishes m x found runs) loud) is =
+    let same : m ≡ session = cc in
+    record { event_is = inl (ap (λ n. Finish n) same); opener = x; found = ap (session_of t seat) (sym same) ∙ found }
+freed-by t u seat session _ _ (changes _ (withdraws by target x y w may waits) loud) is = absurd (cc)
+freed-by t u seat session _ _ (changes _ (stops by target x y r may runs first) loud) is = absurd (cc)
+freed-by t u seat session _ _ (changes _ (closes m x found rests) loud) is = absurd (cc)
+
+freed-own : (s : State) (seat at session : ℕ) (event : Event) → freeing event (step s seat at event).reply ≡ Some session → IsFreedBy (found_at s at) seat event session
+freed-own s seat at session event =
     let t = found_at s at in
-    let c = attempted t seat (Finish session) in
-    let is = tried-is t seat (Finish session) in
-    outcome-turn (λ o. released o.reply ≡ Some grant → (x : Session) × (session_of t seat session ≡ Some x)) s seat (Finish session) c (has_due s at || c.changed)
-    (λ settles e. finish-turn t (settled c.state) seat session grant c is e)
-    (λ still e. finish-turn t c.state seat session grant c is e)
+    let c = attempted t seat event in
+    let is = tried-is t seat event in
+    outcome-turn (λ o. freeing event o.reply ≡ Some session → IsFreedBy t seat event session) s seat event c (has_due s at || c.changed)
+    (λ settles e. freed-by t (settled c.state) seat session event c is e)
+    (λ still e. freed-by t c.state seat session event c is e)
 
--- so what its own seat does not finish runs on
+-- so what its own seat neither finishes nor lets give way runs on
 not-freed : (s : State) (seat at owner session : ℕ) (event : Event) (r : Runner) → IsHealthy s → IsOwned session owner s.sessions → runner_of s.running session ≡ Some r
-    → (event ≡ Finish session → seat ≢ owner) → freed_by s event (step s seat at event).reply ≢ Some r.query
-not-freed s seat at owner session event r h owned runs unless freed =
-    let f = freed-is s event (step s seat at event).reply r.query freed in
-    let same : f.session ≡ session = one-session s session f.session r (runner_of s.running f.session) h.numbered runs refl f.query_is in
-    let event_is : event ≡ Finish session = f.event_is ∙ ap (λ n. Finish n) same in
-    let own = finish-own s seat at session f.grant (subst (λ e. released (step s seat at e).reply ≡ Some f.grant) event_is f.answers) in
-    let is = session_of-is (found_at s at) seat session own.0 own.1 in
-    unless event_is (sym is.of_seat ∙ (owned-found_at s at session owner owned).owner own.0 is.called)
+    → (event ≡ Finish session → seat ≢ owner) → (event ≡ GiveWay session → seat ≢ owner) → freed_by s event (step s seat at event).reply ≢ Some r.query
+not-freed s seat at owner session event r h owned runs unless_finished unless_gone freed = turn (freeing event (step s seat at event).reply) refl freed where
+  own : IsFreedBy (found_at s at) seat event session → seat ≡ owner
+  own by =
+      let is = session_of-is (found_at s at) seat session by.opener by.found in
+      sym is.of_seat ∙ (owned-found_at s at session owner owned).owner by.opener is.called
+
+  freed-turn : (by : IsFreedBy (found_at s at) seat event session) → (event ≡ Finish session) ⊎ (event ≡ GiveWay session) → ⊥
+  freed-turn by (inl is) = unless_finished is (own by)
+  freed-turn by (inr is) = unless_gone is (own by)
+
+  turn : (o : Option ℕ) → freeing event (step s seat at event).reply ≡ o → option_and_then (query_of s) o ≡ Some r.query → ⊥
+  turn None e f = absurd (cc)
+  turn (Some m) e f =
+      let same : m ≡ session = one-session s session m r (runner_of s.running m) h.numbered runs refl f in
+      let by = freed-own s seat at session event (e ∙ ap (λ n. Some n) same) in
+      freed-turn by by.event_is
 
 -- the running query that its number finds is the one of its session
 runner-session : (t : State) (n query : ℕ) (r : Runner) → AreInPhase t.sessions t.waiting t.running → runner_called t.running query ≡ Some r → eqb r.session n ≡ true → runner_of t.running n ≡ Some r
 runner-session t n query r h called passes =
-    let split = found-split (λ (z : Runner). eqb z.query query) r t.running called in
-    let some : 1 ≤ count_by (λ (z : Runner). eqb z.session n) t.running =
-    subst (λ (l : List Runner). 1 ≤ count_by (λ z. eqb z.session n) l) (sym split.1.1) (counted_among (λ (z : Runner). eqb z.session n) split.0 split.1.0 r passes) in
-    let few : count_by (λ (z : Runner). eqb z.session n) t.running ≤ 1 = omega (arith, h.runs n, one_if-most (is_running (phase_of t.sessions n))) in
-    let there = found_counted (λ (z : Runner). eqb z.session n) t.running some in
-    let same : r ≡ there.0 = found-same (λ (z : Runner). eqb z.query query) (λ z. eqb z.session n) r there.0 t.running called passes few there.1 in
-    there.1 ∙ ap (λ z. Some z) (sym same)
+    found-other (λ (z : Runner). eqb z.query query) (λ z. eqb z.session n) r t.running called passes
+    (omega (arith, h.runs n, one_if-most (is_running (phase_of t.sessions n))))
 
 pub runs-on : (s : State) (seat at owner session : ℕ) (event : Event) (run : Run) → IsHealthy s → IsFormed event → run_of s owner session ≡ Some run
-    → (event ≡ Finish session → seat ≢ owner) → run_of (step s seat at event).state owner session ≡ Some run
-runs-on s seat at owner session event run h formed is unless =
+    → (event ≡ Finish session → seat ≢ owner) → (event ≡ GiveWay session → seat ≢ owner) → run_of (step s seat at event).state owner session ≡ Some run
+runs-on s seat at owner session event run h formed is unless_finished unless_gone =
     let was = run-is s owner session run is in
     let r = was.runner in
     let t = (step s seat at event).state in
     let there = healthy-step s seat at event formed h in
     let owned = owned-opened s owner session was.opener was.open_session in
-    let kept = (grants-step s seat at event h).kept r.query r (runner-number s session r was.runs h.numbered) (not-freed s seat at owner session event r h owned was.runs unless) in
-    let runs = runner-session t session r.query r there.in_phase kept (found_passes (λ (z : Runner). eqb z.session session) r s.running was.runs) in
-    let opener = runs-open t session owner r there.in_phase
+    let numbered = runner-number s session r was.runs h.numbered in
+    let on = (grants-step s seat at event h).kept r.query r numbered (not-freed s seat at owner session event r h owned was.runs unless_finished unless_gone) in
+    let same = goes-same event (step s seat at event).reply t.clock r on.0 on.2 in
+    let passes = ap (λ n. eqb n session) same.session ∙ found_passes (λ (z : Runner). eqb z.session session) r s.running was.runs in
+    let runs = runner-session t session r.query on.0 there.in_phase on.1 passes in
+    let opener = runs-open t session owner on.0 there.in_phase
     (owned-step s seat at event session owner h (given-opened s owner session was.opener was.open_session h.opened) owned) runs in
-    run-found t owner session opener.0 r opener.1 runs ∙ ap (λ x. Some x) was.is
+    run-found t owner session opener.0 on.0 opener.1 runs ∙ ap (λ x. Some x) (same-run r on.0 same ∙ was.is)
 
 -- also along a history of other seats
 pub runs-among : (s : State) (entries : List Entry) (owner session : ℕ) (run : Run) → IsHealthy s → IsLegal s entries → own_entries owner entries ≡ []
     → run_of s owner session ≡ Some run → run_of (replay s entries) owner session ≡ Some run
 runs-among s entries owner session run h legal none is =
     others-keep (λ t. run_of t owner session ≡ Some run) owner
-    (λ t seat at event apart healthy formed runs. runs-on t seat at owner session event run healthy formed runs (λ _. apart)) s entries h legal none is
+    (λ t seat at event apart healthy formed runs. runs-on t seat at owner session event run healthy formed runs (λ _. apart) (λ _. apart)) s entries h legal none is
 
 -- a Finish of a running session is not refused
 finish-found : (t : State) (seat session : ℕ) (x : Session) → session_of t seat session ≡ Some x → is_running x.phase ≡ true → attempted t seat (Finish session) ≡ finished t x
@@ -378,17 +406,40 @@ collects-run t n seat query grant h owned =
     (ap is_ended (phase_of-found n t.sessions h.session h.called) ∙ h.goes_on)
     ∙ run-told t n seat query grant h owned
 
+-- a check tells of no admission
+check-admits : (answer : Reply) (query grant own borrowed : ℕ) (pool : Name) → IsCheckReply answer → answer ≢ reply.Admitted query pool grant own borrowed
+check-admits _ query grant own borrowed pool says_go e = cc
+check-admits _ query grant own borrowed pool (says_way to) e = cc
+check-admits _ query grant own borrowed pool (says_end which ran cap) e = cc
+check-admits _ query grant own borrowed pool says_stop e = cc
+
 entered-told : (t : State) (seat session query grant own borrowed : ℕ) (pool : Name) (event : Event) (c : Change) → IsTried t seat event c → session_in event ≡ Some session
     → TellsRun seat session query grant own borrowed pool (answered (settled c.state) c.answer) (reply_of (settled c.state) c.answer)
 entered-told t seat session query grant own borrowed pool _ _ (stays _ (refuses event r is)) of e = absurd (cc)
 entered-told t seat session query grant own borrowed pool _ _ (stays _ (repeats n p x found same)) of e = absurd (cc)
+entered-told t seat session query grant own borrowed pool _ _ (stays _ (caps_again n cap x found same)) of e = absurd (cc)
+entered-told t seat session query grant own borrowed pool _ _ (stays _ (judges n x r answer is says)) of e = absurd (check-admits answer query grant own borrowed pool says e)
+entered-told t seat session query grant own borrowed pool _ _ (stays _ (stops_again by target x y r may runs already)) of e = absurd (cc)
 entered-told t seat session query grant own borrowed pool _ _ (stays _ (tells n x found active)) of e =
     let number : x.number ≡ session = (session_of-is t seat n x found).number ∙ (let same : n ≡ session = cc in same) in
     subst (λ k. run_of (settled t) seat k ≡ Some (record { query = query; grant = grant })) number
     (run-told (settled t) x.number seat query grant (told-run (settled t) x.number query grant own borrowed pool e) (owned-settled t x.number seat (owned-self t seat n x found)))
-entered-told t seat session query grant own borrowed pool _ _ (changes _ (defines statement new none accepts) loud) of e = absurd (cc)
+entered-told t seat session query grant own borrowed pool _ _ (changes _ (defines statement new dropped_none accepts) loud) of e = absurd (cc)
 entered-told t seat session query grant own borrowed pool _ _ (changes _ (opens user may) loud) of e = absurd (cc)
 entered-told t seat session query grant own borrowed pool _ _ (changes _ (chooses n p x found may other) loud) of e = absurd (cc)
+entered-told t seat session query grant own borrowed pool _ _ (changes _ (caps n cap x found room other) loud) of e = absurd (cc)
+entered-told t seat session query grant own borrowed pool _ _ (changes _ (moves_on n x r to is taken) loud) of e = absurd (cc)
+entered-told t seat session query grant own borrowed pool _ _ (changes _ (asks n x r to is) loud) of e = absurd (cc)
+entered-told t seat session query grant own borrowed pool _ _ (changes _ (gives_way n x r to found runs leaves) loud) of e =
+    let c = gave_way t r to in
+    let here : r.session ≡ x.number = session-found t.running x.number r runs in
+    let number : r.session ≡ session = here ∙ (session_of-is t seat n x found).number ∙ (let same : n ≡ session = cc in same) in
+    let before : IsOwned r.session seat t.sessions = subst (λ k. IsOwned k seat t.sessions) (sym here) (owned-self t seat n x found) in
+    let owned = owned-settled c r.session seat (owned-with r.session r.session seat phase.Waiting t.sessions before) in
+    subst (λ k. run_of (answered (settled c) (Collects r.session)) seat k ≡ Some (record { query = query; grant = grant })) number
+    (collects-run (settled c) r.session seat query grant (told-run (settled c) r.session query grant own borrowed pool e) owned)
+entered-told t seat session query grant own borrowed pool _ _ (changes _ (withdraws by target x y w may waits) loud) of e = absurd (cc)
+entered-told t seat session query grant own borrowed pool _ _ (changes _ (stops by target x y r may runs first) loud) of e = absurd (cc)
 entered-told t seat session query grant own borrowed pool _ _ (changes _ (submits n floor x found may) loud) of e =
     let c = (submitted t x (session_pool t.definitions x) floor).state in
     let number : x.number ≡ session = (session_of-is t seat n x found).number ∙ (let same : n ≡ session = cc in same) in
@@ -404,6 +455,9 @@ quiet-told : (t : State) (seat session query grant own borrowed : ℕ) (pool : N
     → TellsRun seat session query grant own borrowed pool t (reply_of c.state c.answer)
 quiet-told t seat session query grant own borrowed pool _ _ (stays _ (refuses event r is)) still of e = absurd (cc)
 quiet-told t seat session query grant own borrowed pool _ _ (stays _ (repeats n p x found same)) still of e = absurd (cc)
+quiet-told t seat session query grant own borrowed pool _ _ (stays _ (caps_again n cap x found same)) still of e = absurd (cc)
+quiet-told t seat session query grant own borrowed pool _ _ (stays _ (judges n x r answer is says)) still of e = absurd (check-admits answer query grant own borrowed pool says e)
+quiet-told t seat session query grant own borrowed pool _ _ (stays _ (stops_again by target x y r may runs already)) still of e = absurd (cc)
 quiet-told t seat session query grant own borrowed pool _ _ (stays _ (tells n x found active)) still of e =
     let number : x.number ≡ session = (session_of-is t seat n x found).number ∙ (let same : n ≡ session = cc in same) in
     subst (λ k. run_of t seat k ≡ Some (record { query = query; grant = grant })) number

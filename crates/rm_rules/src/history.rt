@@ -4,7 +4,7 @@ ghost use Rattle.std.specs.Prelude.{◌≡◌, ◌≢◌, ◌↔◌, ℕ, ◌+�
 ghost use Rattle.rm_base.specs.declared.definitions.Definitions.{Definitions};
 ghost use Rattle.rm_base.specs.declared.entry.Entry.{Entry};
 ghost use Rattle.rm_base.specs.declared.event.Event.{Event};
-ghost use Rattle.rm_base.specs.declared.event.Event.TheVariants.{Submit, Finish};
+ghost use Rattle.rm_base.specs.declared.event.Event.TheVariants.{Submit, GiveWay, Finish};
 ghost use Rattle.rm_base.specs.declared.limits.TheConstants.{CHANGES_MOST, ENTRIES_BEYOND};
 ghost use Rattle.rm_base.specs.declared.name.Name.{Name};
 ghost use Rattle.rm_base.specs.declared.refusal.Refusal.{Refusal};
@@ -45,7 +45,8 @@ pub fn conserved_after_each_event()
         → ConservedAfterEach (start d room) entries }
 {}
 
-/// No event changes a grant. None but Finish takes one away, whole, as it replies, and each new one is an admitted query's.
+/// No event changes a grant. None but Finish and GiveWay takes one away, whole, and each new one is an admitted query's. A pool
+/// stays within its cap where a query moves on to it.
 pub fn grants_are_kept()
     ensures step { (s : State) (seat at : ℕ) (event : Event)
         → IsHealthy s
@@ -56,13 +57,15 @@ pub fn grants_are_kept()
         → BytesAreKept (start d room) entries }
 {}
 
-/// A session that runs goes on with its query and its grant until its own seat finishes it, whatever others do.
+/// A session that runs goes on with its query and its grant until its own seat finishes it or lets it give way, whatever others
+/// do: a query may move on to another pool, or be told to stop, but it keeps both.
 pub fn running_sessions_go_on()
     ensures step { (s : State) (seat at owner session : ℕ) (event : Event) (run : Run)
         → IsHealthy s
         → IsFormed event
         → run_of s owner session ≡ Some run
         → (event ≡ Finish session → seat ≢ owner)
+        → (event ≡ GiveWay session → seat ≢ owner)
         → run_of (step s seat at event).state owner session ≡ Some run }
     ensures others { (s : State) (entries : List Entry) (owner session : ℕ) (run : Run)
         → IsHealthy s
