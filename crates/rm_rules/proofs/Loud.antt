@@ -117,21 +117,21 @@ runner-own : (s : State) (n : ℕ) (r : Runner) → runner_of s.running n ≡ So
 runner-own s n r found = ap (runner_of s.running) (eqb-true r.session n (found_passes (λ (y : Runner). eqb y.session n) r s.running found)) ∙ found
 
 -- what an event that says so changes is more than the clock, also once its answer is given
-loud-change : (s : State) (seat clock : ℕ) (event : Event) (c : Change) → IsFormed event → IsChange s seat event c → AreInPhase c.state.sessions c.state.waiting c.state.running
+loud-change : (s : State) (seat clock : ℕ) (event : Event) (c : Change) → IsChange s seat event c → AreInPhase c.state.sessions c.state.waiting c.state.running
     → answered (settled c.state) c.answer ≡ at_clock clock s → ⊥
-loud-change s seat clock _ _ formed (defines statement new none accepts) in_phase same =
+loud-change s seat clock _ _ (defines statement new none accepts) in_phase same =
     let counted = accepted-counted s.definitions statement new accepts in
     let left = (rest-settled (defined s new)).definitions in
     let changes : s.definitions.changes ≡ new.changes = ap (λ (u : State). u.definitions.changes) (sym same) ∙ ap (λ (d : Definitions). d.changes) left in
     omega (arith, changes, counted.changes)
-loud-change s seat clock _ _ formed (drops pool new accepts) in_phase same =
+loud-change s seat clock _ _ (drops pool new accepts) in_phase same =
     let counted = accepted-counted s.definitions (DropPool pool) new accepts in
     let left = (rest-settled (dropped s pool new)).definitions in
     let changes : s.definitions.changes ≡ new.changes = ap (λ (u : State). u.definitions.changes) (sym same) ∙ ap (λ (d : Definitions). d.changes) left in
     omega (arith, changes, counted.changes)
-loud-change s seat clock _ _ formed (opens user may) in_phase same =
+loud-change s seat clock _ _ (opens user may) in_phase same =
     omega (arith, ap (λ (u : State). u.last_session) (sym same), (rest-settled (opened s seat user).state).last_session)
-loud-change s seat clock _ _ formed (chooses session pool x found may other) in_phase same =
+loud-change s seat clock _ _ (chooses session pool x found may other) in_phase same =
     let c = (choice_made s x pool).state in
     let there = session_of-found s seat session x found in
     let now : session_called c.sessions x.number ≡ Some (choosing_pool pool x) =
@@ -139,7 +139,7 @@ loud-change s seat clock _ _ formed (chooses session pool x found may other) in_
     let left = (left-settled x.number (choosing_pool pool x) c in_phase (left-self x.number (choosing_pool pool x) c.sessions now)).left in
     let is = session-differs s (settled c) x.number clock x left.session there left.called same in
     false≢true (sym other ∙ chosen-already x pool (ap (λ (z : Session). z.pool) (sym is) ∙ left.left.pool))
-loud-change s seat clock _ _ formed (caps session cap x found room other) in_phase same =
+loud-change s seat clock _ _ (caps session cap x found room other) in_phase same =
     let own = within_moments cap in
     let c = (cap_made s x own).state in
     let there = session_of-found s seat session x found in
@@ -147,12 +147,12 @@ loud-change s seat clock _ _ formed (caps session cap x found room other) in_pha
     let left = (left-settled x.number (capped own x) c in_phase (left-self x.number (capped own x) c.sessions now)).left in
     let is = session-differs s (settled c) x.number clock x left.session there left.called same in
     false≢true (sym other ∙ capped-already x own (ap (λ (z : Session). z.cap_ms) (sym is) ∙ left.left.cap_ms))
-loud-change s seat clock _ _ formed (submits session floor x found may) in_phase same =
+loud-change s seat clock _ _ (submits session floor x found may) in_phase same =
     omega (arith, ap (λ (u : State). u.last_query) (sym same), (rest-settled (submitted s x (session_pool s.definitions x) floor).state).last_query)
-loud-change s seat clock _ _ formed (collects session x end found ended) in_phase same =
+loud-change s seat clock _ _ (collects session x end found ended) in_phase same =
     let there = session_of-found s seat session x found in
     idle-differs s (collected s x end).state x.number clock x (phased phase.Idle x) in_phase there (ap is_idle ended) (idle-then s x there) refl same
-loud-change s seat clock _ _ formed (moves_on session x r pool is taken) in_phase same =
+loud-change s seat clock _ _ (moves_on session x r pool is taken) in_phase same =
     let moves = λ (y : Runner). y.moves in
     omega (
       arith,
@@ -161,7 +161,7 @@ loud-change s seat clock _ _ formed (moves_on session x r pool is taken) in_phas
       sum_without moves (λ y. eqb y.session r.session) r s.running (runner-own s x.number r is.runs),
       sum_by_push moves (without_runner r.session s.running) (moved s.clock pool r),
     )
-loud-change s seat clock _ _ formed (asks session x r pool is) in_phase same =
+loud-change s seat clock _ _ (asks session x r pool is) in_phase same =
     let moves = λ (y : Runner). y.moves in
     omega (
       arith,
@@ -169,7 +169,7 @@ loud-change s seat clock _ _ formed (asks session x r pool is) in_phase same =
       more-settled moves (asked_to_leave s r pool),
       sum-changed moves (λ y. eqb y.session r.session) (leaving_for pool) r s.running (runner-own s x.number r is.runs),
     )
-loud-change s seat clock _ _ formed (gives_way session x r pool found runs leaves) in_phase same =
+loud-change s seat clock _ _ (gives_way session x r pool found runs leaves) in_phase same =
     let leaving = λ (y : Runner). cond {A = ℕ} (is_some y.leaving) 1 0 in
     omega (
       arith,
@@ -178,10 +178,10 @@ loud-change s seat clock _ _ formed (gives_way session x r pool found runs leave
       sum_without leaving (λ y. eqb y.session r.session) r s.running (runner-own s x.number r runs),
       ap {B = ℕ} (λ (o : Option Name). cond (is_some o) 1 0) leaves,
     )
-loud-change s seat clock _ _ formed (finishes session x found runs) in_phase same =
+loud-change s seat clock _ _ (finishes session x found runs) in_phase same =
     let there = session_of-found s seat session x found in
     idle-differs s (finished s x).state x.number clock x (phased phase.Idle x) in_phase there (running-just x.phase runs).idle (idle-then s x there) refl same
-loud-change s seat clock _ _ formed (withdraws by target x y w may waits) in_phase same =
+loud-change s seat clock _ _ (withdraws by target x y w may waits) in_phase same =
     let number = λ (v : Waiter). cond {A = ℕ} (eqb v.query w.query) 1 0 in
     let own : waiter_of s.waiting w.session ≡ Some w =
     ap (waiter_of s.waiting) (eqb-true w.session y.number (found_passes (λ (v : Waiter). eqb v.session y.number) w s.waiting waits)) ∙ waits in
@@ -192,7 +192,7 @@ loud-change s seat clock _ _ formed (withdraws by target x y w may waits) in_pha
       sum_without number (λ v. eqb v.session w.session) w s.waiting own,
       ap {B = ℕ} (λ b. cond b 1 0) (eq-eqb w.query w.query refl),
     )
-loud-change s seat clock _ _ formed (stops by target x y r may runs first) in_phase same =
+loud-change s seat clock _ _ (stops by target x y r may runs first) in_phase same =
     let stopped = λ (v : Runner). cond {A = ℕ} v.cancelled 1 0 in
     omega (
       arith,
@@ -201,7 +201,7 @@ loud-change s seat clock _ _ formed (stops by target x y r may runs first) in_ph
       sum-changed stopped (λ v. eqb v.session r.session) stopping r s.running (runner-own s y.number r runs),
       ap {B = ℕ} (λ b. cond b 1 0) first,
     )
-loud-change s seat clock _ _ formed (closes session x found rests) in_phase same =
+loud-change s seat clock _ _ (closes session x found rests) in_phase same =
     omega (
       arith,
       ap (λ (u : State). length u.sessions) same,
@@ -312,7 +312,7 @@ loud-entered s seat at event c h formed is same =
     let back : (let u : State = record t { journal = s.journal } in u) ≡ (let u : State = record s { clock = t.clock } in u) =
     ap (λ (u : State). let v : State = record u { journal = s.journal } in v) same in
     let whole : t ≡ (let u : State = record t { journal = s.journal } in u) = ap (λ l. let u : State = record t { journal = l } in u) journal in
-    loud-change m seat t.clock event c formed is in_phase (whole ∙ back)
+    loud-change m seat t.clock event c is in_phase (whole ∙ back)
 
 -- an event for which one has acted
 due-entered : (s : State) (seat at : ℕ) (event : Event) (c : Change) (o : Option Waiter) → first_due (moved_to s at) ≡ o → is_some o ≡ true → IsHealthy s
