@@ -1,11 +1,14 @@
 -- What an event does to the grants of the running queries.
-use Rattle.std.proofs.Common.{◌≡◌, ℕ, ◌+◌, ◌≤◌, Bool, true, false, ◌||◌, cond, eqb, List, [], ◌∷◌, ◌++◌, Some, None, Option, inl, inr, ◌⊎◌, refl, sym, ap, ◌∙◌, subst, arith, append_assoc, append-nil, count_by}
+use Rattle.std.proofs.Common.{◌≡◌, ℕ, ◌+◌, ◌≤◌, Bool, true, false, ◌||◌, cond, eqb, List, [], ◌∷◌, ◌++◌, Some, None, Option, inl, inr, ◌⊎◌, refl, sym, ap, ◌∙◌, subst, arith, append_assoc, append-nil, count_by, map, filter, not}
 use Rattle.std.specs.Prelude.{◌≢◌, option_map, option_and_then}
 use Rattle.std.specs.List.{find}
 use Rattle.std.proofs.lemmas.Bool.{eqb-true, eq-eqb, false≢true}
 use Rattle.rm_base.specs.declared.event.Event.{Event}
 use Rattle.rm_base.specs.declared.event.Event.TheVariants.{Define, Open, SetPool, SetCap, Submit, Poll, Check, GiveWay, Finish, Cancel, Close}
 use Rattle.rm_base.specs.declared.name.Name.{Name}
+use Rattle.rm_base.specs.declared.definitions.Definitions.{Definitions}
+use Rattle.rm_base.specs.declared.statement.Statement.TheVariants.{DropPool}
+use Rattle.rm_base.proofs.Names.{same_name-eq}
 use Rattle.rm_base.specs.declared.refusal.Refusal.{Refusal}
 use Rattle.rm_base.specs.declared.refusal.Refusal.TheVariants as refusal
 use Rattle.rm_base.specs.declared.reply.End.{End}
@@ -22,6 +25,7 @@ use Rattle.rm_rules.specs.Ask.{cap}
 use Rattle.rm_rules.specs.State.{State, session_called, changed_first, without, without_runner, session_pool, is_running, runner_of, waiter_of}
 use Rattle.rm_rules.specs.Holdings.{holdings}
 use Rattle.rm_rules.specs.Accounting.{used}
+use Rattle.rm_rules.specs.DropPool.{waits_in, as_generals, runner_beside, goes_before, dropped}
 use Rattle.rm_rules.specs.Moving.{takes, moved, leaving_for, requeued, stopping, moved_on, asked_to_leave, gave_way, asked_to_stop}
 use Rattle.rm_rules.specs.Admission.{started, admitted, first_entitled}
 use Rattle.rm_rules.specs.Settle.{settled}
@@ -29,7 +33,7 @@ use Rattle.rm_rules.specs.Change.{Change, grant_of, new_waiter, within_moments, 
 use Rattle.rm_rules.specs.Answers.{told, told_in_phase, told_running, told_waiting, reply_of}
 use Rattle.rm_rules.specs.Step.{entered, moved_to, has_due, found_at, attempted, step}
 use Rattle.rm_rules.specs.Healthy.{AreNumbered, IsHealthy}
-use Rattle.rm_rules.specs.Grants.{runner_called, waiter_called, grant_called, query_of, released, moved_on_to, is_refused, freeing, freed_by, moving_in, without_freed, with_moved, still_running, GoesOn, Stays, Moves, Leaves, Stops, GoOn, Nobody, Next, WasSubmitted, GaveWay, HasWaited, IsAdmitted, KeepsGrants}
+use Rattle.rm_rules.specs.Grants.{runner_called, waiter_called, grant_called, query_of, released, moved_on_to, is_refused, freeing, freed_by, moving_in, without_freed, with_moved, still_running, GoesOn, Stays, Moves, Leaves, Stops, GoOn, Nobody, Next, WasSubmitted, GaveWay, HasWaited, IsAdmitted, KeepsGrants, Dropped, WasDropped}
 use Rattle.rm_rules.proofs.Taken.{found_passes, found_counted, found_single, counted_among, count_without, or_right_false}
 use Rattle.rm_rules.proofs.Found.{found-behind, found-front, found-push, found-split, found-other, gone-other, find-beside, find-put, without-unfound}
 use Rattle.rm_rules.proofs.Queue.{IsAmong, further, found_among}
@@ -74,6 +78,70 @@ among-push w y (x ∷ ws) among = push-turn w x y ws (first-or w x (ws ++ y ∷ 
     behind : IsAmong w ws ⊎ (w ≡ y) → IsAmong w (x ∷ ws) ⊎ (w ≡ y)
     behind (inl here) = inl (further w x ws here)
     behind (inr new) = inr new
+
+-- what is of lists that are put together, of those that pass a test, and of what a list is mapped to
+parts-turn : (w x : Waiter) (xs ys : List Waiter) → (x ≡ w) ⊎ IsAmong w (xs ++ ys) → (IsAmong w (xs ++ ys) → IsAmong w xs ⊎ IsAmong w ys) → IsAmong w (x ∷ xs) ⊎ IsAmong w ys
+parts-turn w x xs ys (inl same) rest = inl (record { front = []; rest = xs; split = ap (λ z. z ∷ xs) same })
+parts-turn w x xs ys (inr more) rest = behind (rest more) where
+  behind : IsAmong w xs ⊎ IsAmong w ys → IsAmong w (x ∷ xs) ⊎ IsAmong w ys
+  behind (inl here) = inl (further w x xs here)
+  behind (inr there) = inr there
+
+among-parts : (w : Waiter) (xs ys : List Waiter) → IsAmong w (xs ++ ys) → IsAmong w xs ⊎ IsAmong w ys
+among-parts w [] ys among = inr among
+among-parts w (x ∷ xs) ys among = parts-turn w x xs ys (first-or w x (xs ++ ys) among.front among.rest among.split) (among-parts w xs ys)
+
+nobody-turn : (w : Waiter) (front rest : List Waiter) → [] ≡ front ++ w ∷ rest → ⊥
+nobody-turn w [] rest e = let none : [] ≡ w ∷ rest = e in cc
+nobody-turn w (x ∷ front) rest e = let none : [] ≡ x ∷ (front ++ w ∷ rest) = e in cc
+
+passing-turn : (test : Waiter → Bool) (w x : Waiter) (ws : List Waiter) (b : Bool) → test x ≡ b → (IsAmong w (filter test ws) → IsAmong w ws × (test w ≡ true))
+    → IsAmong w (cond b (x ∷ filter test ws) (filter test ws)) → IsAmong w (x ∷ ws) × (test w ≡ true)
+passing-turn test w x ws true is rest among = turn (first-or w x (filter test ws) among.front among.rest among.split) where
+  turn : (x ≡ w) ⊎ IsAmong w (filter test ws) → IsAmong w (x ∷ ws) × (test w ≡ true)
+  turn (inl same) = (record { front = []; rest = ws; split = ap (λ z. z ∷ ws) same }, ap test (sym same) ∙ is)
+  turn (inr more) = let there = rest more in (further w x ws there.0, there.1)
+passing-turn test w x ws false is rest among = let there = rest among in (further w x ws there.0, there.1)
+
+among-passing : (test : Waiter → Bool) (w : Waiter) (ws : List Waiter) → IsAmong w (filter test ws) → IsAmong w ws × (test w ≡ true)
+among-passing test w [] among = absurd (nobody-turn w among.front among.rest among.split)
+among-passing test w (x ∷ ws) among = passing-turn test w x ws (test x) refl (among-passing test w ws) among
+
+mapped-turn : (act : Waiter → Waiter) (w x : Waiter) (ws : List Waiter) → (act x ≡ w) ⊎ IsAmong w (map act ws)
+    → (IsAmong w (map act ws) → (y : Waiter) × (IsAmong y ws × (w ≡ act y))) → (y : Waiter) × (IsAmong y (x ∷ ws) × (w ≡ act y))
+mapped-turn act w x ws (inl same) rest = (x, (record { front = []; rest = ws; split = refl }, sym same))
+mapped-turn act w x ws (inr more) rest = let there = rest more in (there.0, (further there.0 x ws there.1.0, there.1.1))
+
+among-mapped : (act : Waiter → Waiter) (w : Waiter) (ws : List Waiter) → IsAmong w (map act ws) → (y : Waiter) × (IsAmong y ws × (w ≡ act y))
+among-mapped act w [] among = absurd (nobody-turn w among.front among.rest among.split)
+among-mapped act w (x ∷ ws) among = mapped-turn act w x ws (first-or w (act x) (map act ws) among.front among.rest among.split) (among-mapped act w ws)
+
+-- a query that waits where a pool was dropped waited, in the pool or in another
+abbrev WaitedBeside : List Waiter → Name → Waiter → Type 0
+WaitedBeside waiting pool w = IsAmong w waiting ⊎ ((y : Waiter) × (IsAmong y waiting × ((waits_in pool y ≡ true) × (w ≡ as_generals y))))
+
+own-beside : (waiting : List Waiter) (pool : Name) (w : Waiter) → IsAmong w (map as_generals (filter (waits_in pool) waiting)) → WaitedBeside waiting pool w
+own-beside waiting pool w among =
+    let from = among-mapped as_generals w (filter (waits_in pool) waiting) among in
+    let there = among-passing (waits_in pool) from.0 waiting from.1.0 in
+    inr (from.0, (there.0, (there.1, from.1.1)))
+
+other-beside : (waiting : List Waiter) (pool : Name) (w : Waiter) → IsAmong w (filter (λ y. not (waits_in pool y)) waiting) → WaitedBeside waiting pool w
+other-beside waiting pool w among = inl (among-passing (λ y. not (waits_in pool y)) w waiting among).0
+
+either-beside : (waiting : List Waiter) (pool : Name) (w : Waiter) (front : Bool)
+    → (let those = map as_generals (filter (waits_in pool) waiting) in let others = filter (λ y. not (waits_in pool y)) waiting in
+    IsAmong w (cond front (those ++ others) (others ++ those)) → WaitedBeside waiting pool w)
+either-beside waiting pool w true among =
+    turn (among-parts w (map as_generals (filter (waits_in pool) waiting)) (filter (λ y. not (waits_in pool y)) waiting) among) where
+      turn : IsAmong w (map as_generals (filter (waits_in pool) waiting)) ⊎ IsAmong w (filter (λ y. not (waits_in pool y)) waiting) → WaitedBeside waiting pool w
+      turn (inl own) = own-beside waiting pool w own
+      turn (inr other) = other-beside waiting pool w other
+either-beside waiting pool w false among =
+    turn (among-parts w (filter (λ y. not (waits_in pool y)) waiting) (map as_generals (filter (waits_in pool) waiting)) among) where
+      turn : IsAmong w (filter (λ y. not (waits_in pool y)) waiting) ⊎ IsAmong w (map as_generals (filter (waits_in pool) waiting)) → WaitedBeside waiting pool w
+      turn (inl other) = other-beside waiting pool w other
+      turn (inr own) = own-beside waiting pool w own
 
 -- a waiting query is what its number finds
 number-counted : (w : Waiter) (ws : List Waiter) → IsAmong w ws → 1 ≤ count_by (λ x. eqb x.query w.query) ws
@@ -153,6 +221,7 @@ goes-same event answer moment r _ Stays = record { query = refl; session = refl;
 goes-same event answer moment r _ (Moves pool is says) = record { query = refl; session = refl; grant = refl }
 goes-same event answer moment r _ (Leaves pool is says) = record { query = refl; session = refl; grant = refl }
 goes-same event answer moment r _ (Stops by is says) = record { query = refl; session = refl; grant = refl }
+goes-same event answer moment r _ (Dropped pool is says) = record { query = refl; session = refl; grant = refl }
 
 -- all stay, the last goes on, or the first that passes a test
 go-all : (event : Event) (answer : Reply) (moment : ℕ) (rs : List Runner) → GoOn event answer moment rs rs
@@ -175,6 +244,10 @@ go-first : (event : Event) (answer : Reply) (moment : ℕ) (test : Runner → Bo
 go-first event answer moment test act [] goes = Nobody
 go-first event answer moment test act (r ∷ rs) goes =
     first-turn event answer moment test act r rs (test r) (goes r) (go-first event answer moment test act rs goes)
+
+go-dropped : (pool : Name) (moment : ℕ) (rs : List Runner) → GoOn (Define (DropPool pool)) reply.Defined moment rs (map (runner_beside pool) rs)
+go-dropped pool moment [] = Nobody
+go-dropped pool moment (r ∷ rs) = Next r (runner_beside pool r) rs (map (runner_beside pool) rs) (Dropped pool refl refl) (go-dropped pool moment rs)
 
 -- so each is found by its number as it goes on, and no other is
 found-turn : (event : Event) (answer : Reply) (moment query : ℕ) (r y x : Runner) (rs xs : List Runner) (b : Bool) → eqb y.query query ≡ b → GoesOn event answer moment y x
@@ -371,9 +444,9 @@ plain-running s event answer plain =
 plain-frees : (s : State) (event : Event) (answer : Reply) (query : ℕ) → IsPlain event answer → freed_by s event answer ≢ Some query
 plain-frees s event answer query plain is = let no : None ≡ Some query = sym (ap (option_and_then (query_of s)) plain.frees) ∙ is in cc
 
--- a query that waits after a change waited before it, or the event submitted it, or let it give way
+-- a query that waits after a change waited before it, or the event submitted it, let it give way, or dropped its pool
 abbrev Waits : State → Event → ℕ → Waiter → Type 0
-Waits s event moment w = IsAmong w s.waiting ⊎ (WasSubmitted s event w ⊎ GaveWay s event moment w)
+Waits s event moment w = IsAmong w s.waiting ⊎ (WasSubmitted s event w ⊎ (GaveWay s event moment w ⊎ WasDropped s event w))
 
 -- What a change does to the running and the waiting queries. One whose grant it gives back waits no more.
 record Turned (s : State) (event : Event) (answer : Reply) (moment : ℕ) (c : State) : Type 0 where
@@ -453,13 +526,13 @@ turned-gave_way s session r pool answer runs leaves goes told numbered =
     } where
       turn : (w : Waiter) → r.session ≡ session → IsAmong w s.waiting ⊎ (w ≡ requeued s.clock pool r) → Waits s (GiveWay session) s.clock w
       turn w number (inl before) = inl before
-      turn w number (inr is) = inr (inr (subst (GaveWay s (GiveWay session) s.clock) (sym is) (record {
+      turn w number (inr is) = inr (inr (inl (subst (GaveWay s (GiveWay session) s.clock) (sym is) (record {
         runner = r;
         ran = runner-number s session r runs numbered;
         event_is = ap (λ n. GiveWay n) (sym number);
         left = leaves;
         is = refl;
-      })))
+      }))))
 
 -- where it moves on
 turned-moved_on : (s : State) (session : ℕ) (r : Runner) (pool : Name) → runner_of s.running session ≡ Some r → takes s r pool ≡ true
@@ -501,9 +574,27 @@ turned-stopped s by target r number =
     (λ y here. Stops by (ap (λ n. Cancel by n) (sym number ∙ sym (eqb-true y.session r.session here))) refl))
     (λ w among. inl among)
 
+-- where a pool is dropped
+turned-dropped : (s : State) (pool : Name) (new : Definitions) → AreNumbered s.last_query s.waiting s.running → Turned s (Define (DropPool pool)) reply.Defined s.clock (dropped s pool new)
+turned-dropped s pool new numbered =
+    turned-goes s (dropped s pool new) (Define (DropPool pool)) reply.Defined (record { frees = refl; moves_in = refl; moves_to = refl }) (go-dropped pool s.clock s.running)
+    (λ w among. turn w (either-beside s.waiting pool w (goes_before s.definitions pool) among)) where
+      turn : (w : Waiter) → WaitedBeside s.waiting pool w → Waits s (Define (DropPool pool)) s.clock w
+      turn w (inl before) = inl before
+      turn w (inr from) =
+          let y = from.0 in
+          let query : w.query ≡ y.query = ap (λ (z : Waiter). z.query) from.1.1.1 in
+          inr (inr (inr (record {
+            waiter = y;
+            waited = ap (waiter_called s.waiting) query ∙ number-found s.last_query s.waiting s.running y numbered from.1.0;
+            event_is = ap (λ n. Define (DropPool n)) (sym (same_name-eq y.pool pool from.1.1.0));
+            is = from.1.1.1;
+          })))
+
 turned-change : (s : State) (seat : ℕ) (event : Event) (c : Change) → IsChange s seat event c → IsHealthy s → Turned s event (reply_of (settled c.state) c.answer) s.clock c.state
 turned-change s seat _ _ (defines statement new dropped_none accepts) h =
-    turned-plain s (defined s new).state (Define statement) reply.Defined (record { frees = refl; moves_in = refl; moves_to = refl }) refl (λ w among. inl among)
+    turned-plain s (defined s new) (Define statement) reply.Defined (record { frees = refl; moves_in = refl; moves_to = refl }) refl (λ w among. inl among)
+turned-change s seat _ _ (drops pool new accepts) h = turned-dropped s pool new h.numbered
 turned-change s seat _ _ (opens user may) h =
     turned-plain s (opened s seat user).state (Open user) (reply.Opened (s.last_session + 1)) (record { frees = refl; moves_in = refl; moves_to = refl }) refl (λ w among. inl among)
 turned-change s seat _ _ (chooses session pool x found may differs) h =
@@ -656,13 +747,23 @@ waited-before : (s t : State) (event : Event) (moment : ℕ) (w : Waiter) → Wa
 waited-before s t event moment w less numbered (inl h) =
     inl (number-found s.last_query s.waiting s.running w numbered (less.waits w (found_among (λ x. eqb x.query w.query) w t.waiting h)))
 waited-before s t event moment w less numbered (inr (inl new)) = inr (inl (new.0, new.1 ∙ ap (λ n. n + 1) less.last_query))
-waited-before s t event moment w less numbered (inr (inr gave)) = inr (inr (record {
+waited-before s t event moment w less numbered (inr (inr (inl gave))) = inr (inr (inl (record {
   runner = gave.runner;
   ran = ap (λ l. runner_called l w.query) (sym less.running) ∙ gave.ran;
   event_is = gave.event_is;
   left = gave.left;
   is = gave.is;
-}))
+})))
+waited-before s t event moment w less numbered (inr (inr (inr was))) =
+    let y = was.waiter in
+    let among = less.waits y (found_among (λ x. eqb x.query w.query) y t.waiting was.waited) in
+    let query : w.query ≡ y.query = ap (λ (z : Waiter). z.query) was.is in
+    inr (inr (inr (record {
+      waiter = y;
+      waited = ap (waiter_called s.waiting) query ∙ number-found s.last_query s.waiting s.running y numbered among;
+      event_is = was.event_is;
+      is = was.is;
+    })))
 
 -- what is freed and who runs on hangs on the running queries alone
 freed-same : (s t : State) (event : Event) (answer : Reply) → t.running ≡ s.running → freed_by t event answer ≡ freed_by s event answer

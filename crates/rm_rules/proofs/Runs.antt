@@ -1,5 +1,5 @@
 -- A session that runs: who opened it, how it goes on, and what it is told.
-use Rattle.std.proofs.Common.{◌≡◌, ℕ, ◌+◌, ◌≤◌, Bool, true, false, ◌||◌, cond, not, eqb, leb, length, List, [], ◌∷◌, ◌++◌, Some, None, Option, Err, Result, inl, inr, ◌⊎◌, refl, sym, ap, ◌∙◌, subst, arith, count_by}
+use Rattle.std.proofs.Common.{◌≡◌, ℕ, ◌+◌, ◌≤◌, Bool, true, false, ◌||◌, cond, not, eqb, leb, length, List, [], ◌∷◌, ◌++◌, Some, None, Option, Err, Result, inl, inr, ◌⊎◌, refl, sym, ap, ◌∙◌, subst, arith, count_by, map}
 use Rattle.std.specs.Prelude.{◌≢◌, option_map, option_and_then}
 use Rattle.std.proofs.lemmas.Bool.{eqb-true, eq-eqb, false≢true}
 use Rattle.std.proofs.lemmas.Bool.Decides.{nat_tests}
@@ -39,6 +39,8 @@ use Rattle.rm_rules.proofs.Settling.{due-keeps, settled-keeps, rest-due}
 use Rattle.rm_rules.proofs.Verdicts.{IsCheckReply, says_go, says_way, says_end, says_stop}
 use Rattle.rm_rules.proofs.Changing.{IsTried, stays, changes, refuses, repeats, caps_again, judges, stops_again, tells, IsChange, defines, drops, opens, chooses, caps, submits, collects, moves_on, asks, gives_way, finishes, withdraws, stops, closes, session_of-is, session_of-found, tried-is}
 use Rattle.rm_rules.proofs.Stepping.{found-facts, none-found, outcome-turn}
+use Rattle.rm_rules.specs.DropPool.{session_beside}
+use Rattle.rm_rules.proofs.Dropping.{called-dropped}
 use Rattle.rm_rules.proofs.Laws.{healthy-step, others-keep}
 use Rattle.rm_rules.proofs.Loud.{next-differs}
 use Rattle.rm_rules.proofs.Grants.{IsSameRun, goes-same, grant_of-found, runner-number, session-found, plain-quiet, less-found, grants-step}
@@ -79,6 +81,11 @@ owned-choice n m seat pool xs h = changed-turn (choosing_pool pool) n m seat xs 
 owned-cap : (n m seat : ℕ) (cap : Option ℕ) (xs : List Session) → IsOwned n seat xs → IsOwned n seat (with_cap m cap xs)
 owned-cap n m seat cap xs h = changed-turn (λ x. record x { cap_ms = cap }) n m seat xs (eqb m n) refl (λ z. refl) (λ z. refl) h
 
+owned-dropped : (n seat : ℕ) (pool : Name) (xs : List Session) → IsOwned n seat xs → IsOwned n seat (map (session_beside pool) xs)
+owned-dropped n seat pool xs h = record {
+  owner = λ y is. mapped-seat (session_beside pool) seat (session_called xs n) y (λ z. refl) h.owner (sym (called-dropped pool n xs) ∙ is);
+}
+
 -- a new session has another number, and one that is gone is found no more
 owned-push : (n seat : ℕ) (x : Session) (xs : List Session) → eqb x.number n ≡ false → IsOwned n seat xs → IsOwned n seat (xs ++ x ∷ [])
 owned-push n seat x xs other h = record { owner = λ y is. turn y is (found-push (has_number n) y x xs is) } where
@@ -115,6 +122,7 @@ owned-answered s (Collects session) n seat h = turn (is_ended (phase_of s.sessio
 owned-changed : (s : State) (by : ℕ) (event : Event) (c : Change) (n seat : ℕ) → IsChange s by event c → AreOpened s.last_session s.sessions → n ≤ s.last_session
     → IsOwned n seat s.sessions → IsOwned n seat c.state.sessions
 owned-changed s by _ _ n seat (defines statement new dropped_none accepts) opened given h = h
+owned-changed s by _ _ n seat (drops pool new accepts) opened given h = owned-dropped n seat pool s.sessions h
 owned-changed s by _ _ n seat (opens user may) opened given h = owned-push n seat (new_session s by user) s.sessions (next-differs s.last_session n given) h
 owned-changed s by _ _ n seat (chooses session pool x found may other) opened given h = owned-choice n x.number seat pool s.sessions h
 owned-changed s by _ _ n seat (caps session cap x found room other) opened given h = owned-cap n x.number seat (within_moments cap) s.sessions h
@@ -231,6 +239,7 @@ way-turn m session false is = cc
 freed-by : (t u : State) (seat session : ℕ) (event : Event) (c : Change) → IsTried t seat event c → freeing event (reply_of u c.answer) ≡ Some session → IsFreedBy t seat event session
 freed-by t u seat session event _ (stays answer still) is = absurd (let no : None ≡ Some session = sym (plain-quiet t u seat event answer still).frees ∙ is in cc)
 freed-by t u seat session _ _ (changes _ (defines statement new dropped_none accepts) loud) is = absurd (cc)
+freed-by t u seat session _ _ (changes _ (drops pool new accepts) loud) is = absurd (cc)
 freed-by t u seat session _ _ (changes _ (opens user may) loud) is = absurd (cc)
 freed-by t u seat session _ _ (changes _ (chooses m pool x found may other) loud) is = absurd (cc)
 freed-by t u seat session _ _ (changes _ (caps m cap x found room other) loud) is = absurd (cc)
@@ -425,6 +434,7 @@ entered-told t seat session query grant own borrowed pool _ _ (stays _ (tells n 
     subst (λ k. run_of (settled t) seat k ≡ Some (record { query = query; grant = grant })) number
     (run-told (settled t) x.number seat query grant (told-run (settled t) x.number query grant own borrowed pool e) (owned-settled t x.number seat (owned-self t seat n x found)))
 entered-told t seat session query grant own borrowed pool _ _ (changes _ (defines statement new dropped_none accepts) loud) of e = absurd (cc)
+entered-told t seat session query grant own borrowed pool _ _ (changes _ (drops gone new accepts) loud) of e = absurd (cc)
 entered-told t seat session query grant own borrowed pool _ _ (changes _ (opens user may) loud) of e = absurd (cc)
 entered-told t seat session query grant own borrowed pool _ _ (changes _ (chooses n p x found may other) loud) of e = absurd (cc)
 entered-told t seat session query grant own borrowed pool _ _ (changes _ (caps n cap x found room other) loud) of e = absurd (cc)

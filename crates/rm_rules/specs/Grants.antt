@@ -192,7 +192,6 @@ pub record GaveWay (old : State) (event : Event) (moment : ℕ) (w : Waiter) : T
   pub left : runner.leaving ≡ Some w.pool
   pub is : w ≡ requeued moment w.pool runner
 
--- the query waited, or this event submitted it, or let it give way
 -- the query waited in a pool that this event drops: it is GENERAL's now
 pub record WasDropped (old : State) (event : Event) (w : Waiter) : Type 0 where
   pub waiter : Waiter
@@ -200,6 +199,7 @@ pub record WasDropped (old : State) (event : Event) (w : Waiter) : Type 0 where
   pub event_is : event ≡ Define (DropPool waiter.pool)
   pub is : w ≡ as_generals waiter
 
+-- the query waited, or this event submitted it, let it give way, or dropped its pool
 abbrev pub HasWaited : State → Event → ℕ → Waiter → Type 0
 HasWaited old event moment w =
     (waiter_called old.waiting w.query ≡ Some w) ⊎ (WasSubmitted old event w ⊎ (GaveWay old event moment w ⊎ WasDropped old event w))
