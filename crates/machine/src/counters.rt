@@ -44,7 +44,7 @@ fn with_one_end(end: End, counts: EndCounts) -> EndCounts
     }
 }
 
-fn place_of_pool(rows: &[PoolRow], pool: Name) -> Option<usize>
+pub fn place_of_pool(rows: &[PoolRow], pool: Name) -> Option<usize>
     ensures value { result ≡ position (λ r. same_name r.name pool) rows.now }
     ensures within { IfSome result (λ place. place < length rows.now) }
 {

@@ -4,5 +4,6 @@
 mod counters;
 pub mod desk;
 mod done;
+mod dropping;
 mod machine;
 mod sessions;

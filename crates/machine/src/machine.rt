@@ -23,6 +23,7 @@ use std::marker::Model;
 mod choose;
 mod close;
 mod define;
+mod drop;
 mod ends;
 mod events;
 mod finish;

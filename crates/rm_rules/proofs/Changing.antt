@@ -32,13 +32,12 @@ use Rattle.rm_rules.specs.Acceptance.{accepted}
 use Rattle.rm_rules.specs.Ask.{is_too_large}
 use Rattle.rm_rules.specs.State.{State, is_defined, waiter_of, runner_of, with_cap, session_called, session_of, if_opened_by, session_pool, with_choice, is_idle, is_active, is_running, live_queries}
 use Rattle.rm_rules.specs.Change.{Change, quiet, changing, with_session, size_refusal, session_busy, not_live, not_running, usage_missing, sessions_full, journal_full, is_journal_full, defined, defined_by, defining_to, opened, opening_refusal, has_chosen, chosen, choosing_refusal, choosing, submitted, submitting_refusal, submitting, polled, polling, collected, finished, finishing, session_running, closed, closing, within_moments, has_cap, cap_set, capping, with_runner, checked_to, checked, checking, giving_way_to, giving_way, withdrawn, stopped, cancelled, cancelled_by, cancelling, change, tried}
-use Rattle.rm_rules.specs.DropPool.{dropped}
+use Rattle.rm_rules.specs.DropPool.{drops_none, dropped}
 use Rattle.rm_rules.specs.Target.{running_time, verdict}
 use Rattle.rm_rules.specs.Moving.{takes, moved_on, asked_to_leave, gave_way, asked_to_stop}
 use Rattle.rm_rules.specs.Answers.{is_defining}
 use Rattle.rm_rules.specs.Sound.{has_pool}
 use Rattle.rm_rules.proofs.Taken.{found_passes, not_true}
-use Rattle.rm_rules.proofs.Defining.{drops_none}
 use Rattle.rm_rules.proofs.Verdicts.{IsCheckReply, says_go, says_way, says_end, says_stop, verdict-says}
 use Rattle.rm_rules.proofs.Refused.{not-refused, first-none, not_above, unless-ok}
 

@@ -20,6 +20,7 @@ use Rattle.rm_rules.specs.Admission.{admitted, started, first_entitled}
 use Rattle.rm_rules.specs.Shuffle.{shuffled, shuffled_state}
 use Rattle.rm_rules.specs.Acceptance.{accepted}
 use Rattle.rm_rules.specs.Change.{defined}
+use Rattle.rm_rules.specs.DropPool.{drops_none}
 use Rattle.rm_rules.specs.Sound.{IsSound}
 use Rattle.rm_rules.specs.Healthy.{AreSized, AreThere, AreWithinMemory, AreCovered}
 use Rattle.rm_rules.proofs.Taken.{all_push, sum_without}
@@ -30,7 +31,7 @@ use Rattle.rm_rules.proofs.There.{waiting-there}
 use Rattle.rm_rules.proofs.Conserved.{granted-within}
 use Rattle.rm_rules.proofs.Shuffling.{covered-shuffle, force-shuffle, shuffle-names, shuffled-bytes}
 use Rattle.rm_rules.proofs.AcceptanceLaws.{accepted-counted}
-use Rattle.rm_rules.proofs.Defining.{drops_none, accepted-names, places, there-after}
+use Rattle.rm_rules.proofs.Defining.{accepted-names, places, there-after}
 
 -- one grant more, for which enough is free, leaves the bytes covered
 covered-push : (d : Definitions) (h : Holdings) (g : Holding) → AreNamed (with_grant h g) → AreCovered d h → need h g.pool g.bytes ≤ free h

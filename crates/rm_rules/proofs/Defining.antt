@@ -26,6 +26,7 @@ use Rattle.rm_rules.specs.Holdings.{holding, holdings, reserves_of, holdings_of}
 use Rattle.rm_rules.specs.Accounting.{held_in, used, debt, kept_back}
 use Rattle.rm_rules.specs.PoolStatements.{created_pool, altered_pool, with_pool}
 use Rattle.rm_rules.specs.GrantStatements.{usage_grant, with_grant}
+use Rattle.rm_rules.specs.DropPool.{drops_none}
 use Rattle.rm_rules.specs.Acceptance.{left_by, counted, accepted}
 use Rattle.rm_rules.specs.Change.{with_place, defined}
 use Rattle.rm_rules.specs.Sound.{IsSound, has_pool, has_grant, begins_with_general}
@@ -53,22 +54,6 @@ grant-turn d g false = keeps_names refl
 
 grant-names : (d : Definitions) (g : GrantRow) → NamesAfter d (with_grant d g)
 grant-names d g = grant-turn d g (has_grant d.grants g)
-
--- the statement drops no pool
-abbrev pub drops_none : Statement → Bool
-drops_none (CreatePool name c) = true
-drops_none (AlterPool name c) = true
-drops_none (DropPool name) = false
-drops_none (CreateUser name c) = true
-drops_none (AlterUser name c) = true
-drops_none (DropUser name) = true
-drops_none (CreateRole name) = true
-drops_none (AlterRole name pool) = true
-drops_none (DropRole name) = true
-drops_none (GrantUsage pool grantee) = true
-drops_none (RevokeUsage pool grantee) = true
-drops_none (GrantRole role user) = true
-drops_none (RevokeRole role user) = true
 
 left-names : (d : Definitions) (statement : Statement) → drops_none statement ≡ true → NamesAfter d (left_by d statement)
 left-names d (CreatePool name c) none = row-names d (created_pool d name c)

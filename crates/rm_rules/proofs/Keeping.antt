@@ -34,7 +34,7 @@ use Rattle.rm_rules.proofs.Refused.{not_below}
 use Rattle.rm_rules.proofs.AcceptanceLaws.{accepted-sound, accepted-counted}
 use Rattle.rm_rules.proofs.Phases.{has_number, choosing_pool, capped, KeepsQuery, phase_of-found, count-with, phase_of-kept, count-kept, opened-kept, opened-with, phase_of-push, count-push, there_if_live, live-counts, live-most, length-with}
 use Rattle.rm_rules.proofs.Moving.{Goes, in_phase-goes, there-goes, numbered-goes, owed-goes, room-owed}
-use Rattle.rm_rules.proofs.Defining.{drops_none}
+use Rattle.rm_rules.specs.DropPool.{drops_none}
 use Rattle.rm_rules.proofs.Covering.{held-finished, held-defined}
 use Rattle.rm_rules.proofs.Timed.{is_within, timed-goes}
 use Rattle.rm_rules.proofs.Changing.{MayOpen, MayChoose, MaySubmit, choice_made, cap_made}

@@ -1,5 +1,5 @@
 -- DROP RESOURCE POOL: what it leaves of the definitions, and what becomes of the pool's bytes and of its queries.
-use Rattle.std.specs.Prelude.{Bool, false, not, ℤ, List, [], ◌∷◌, ◌++◌, Option, Some, None, option_map, find, filter, map, if◌then◌else◌}
+use Rattle.std.specs.Prelude.{Bool, true, false, not, ℤ, List, [], ◌∷◌, ◌++◌, Option, Some, None, option_map, find, filter, map, if◌then◌else◌}
 use Rattle.std.specs.Int.Signed.{lt_z}
 use Rattle.rm_base.specs.declared.definitions.Definitions.{Definitions}
 use Rattle.rm_base.specs.declared.rows.PoolRow.{PoolRow}
@@ -8,6 +8,8 @@ use Rattle.rm_base.specs.declared.rows.RoleRow.{RoleRow}
 use Rattle.rm_base.specs.declared.rows.GrantRow.{GrantRow}
 use Rattle.rm_base.specs.declared.rows.GrantRow.TheVariants.{PoolToUser, PoolToRole, RoleToUser}
 use Rattle.rm_base.specs.declared.name.Name.{Name}
+use Rattle.rm_base.specs.declared.statement.Statement.{Statement}
+use Rattle.rm_base.specs.declared.statement.Statement.TheVariants.{CreatePool, AlterPool, DropPool, CreateUser, AlterUser, DropUser, CreateRole, AlterRole, DropRole, GrantUsage, RevokeUsage, GrantRole, RevokeRole}
 use Rattle.rm_base.specs.declared.refusal.Refusal.{Refusal}
 use Rattle.rm_base.specs.declared.refusal.Refusal.TheVariants as refusal
 use Rattle.rm_base.specs.Name.{same_name, general}
@@ -129,3 +131,19 @@ dropped s pool d = record s {
   running = map (runner_beside pool) s.running;
   waiting = transferred s.waiting pool (goes_before s.definitions pool);
 }
+
+-- the statement drops no pool
+abbrev pub drops_none : Statement → Bool
+drops_none (CreatePool name change) = true
+drops_none (AlterPool name change) = true
+drops_none (DropPool name) = false
+drops_none (CreateUser name change) = true
+drops_none (AlterUser name change) = true
+drops_none (DropUser name) = true
+drops_none (CreateRole name) = true
+drops_none (AlterRole name pool) = true
+drops_none (DropRole name) = true
+drops_none (GrantUsage pool grantee) = true
+drops_none (RevokeUsage pool grantee) = true
+drops_none (GrantRole role user) = true
+drops_none (RevokeRole role user) = true

@@ -13,22 +13,24 @@ use rm_rules::answer::Answer;
 impl Machine {
     ghost use Rattle.rm_base.specs.declared.event.Event.TheVariants.{Define};
     ghost use Rattle.rm_base.specs.Ranges.{is_statement_in_range};
-    ghost use Rattle.rm_rules.specs.Acceptance.{accepted, is_judged};
-    ghost use Rattle.rm_rules.specs.Change.{defined, defining};
+    ghost use Rattle.rm_rules.specs.Acceptance.{accepted};
+    ghost use Rattle.rm_rules.specs.DropPool.{drops_none};
+    ghost use Rattle.rm_rules.specs.Change.{defined, defined_by, defining};
     ghost use Rattle.rm_rules.specs.Sound.{IsSound};
     ghost use Rattle.rm_rules.specs.Healthy.{AreSized, IsHealthy};
     ghost use Rattle.rm_rules.specs.Replay.{IsFormed};
     ghost use Rattle.machine.specs.Done.{change_to};
 
-    /// Makes the change of an accepted statement. A new pool has no bytes yet, and no query of it has ended.
+    /// Makes the change of an accepted statement that drops no pool. A new pool has no bytes yet, and no query of it has
+    /// ended.
     fn apply_statement(&mut self, statement: &Statement)
         requires sound { IsSound self.old.definitions }
         requires in_range { IsTrue (is_statement_in_range statement.now) }
-        requires judged { IsTrue (is_judged statement.now) }
+        requires drops_none { IsTrue (drops_none statement.now) }
         requires accepted { IsOk (accepted self.old.definitions statement.now) }
         requires sized { AreSized self.old.definitions self.old.actual self.old.counters }
         ensures definitions { accepted self.old.definitions statement.now ≡ Ok self.new.definitions }
-        ensures state { self.new ≡ (defined self.old self.new.definitions).state }
+        ensures state { self.new ≡ defined self.old self.new.definitions }
     {
         let pools = self.definitions.pools.len();
         apply(&mut self.definitions, statement);
@@ -37,6 +39,32 @@ impl Machine {
             let name = rows[pools].name;
             self.accounts.add_pool(name);
             self.counters.add(none_ended());
+        }
+    }
+
+    /// Makes the change of an accepted statement.
+    fn take_statement(&mut self, statement: &Statement)
+        requires sound { IsSound self.old.definitions }
+        requires in_range { IsTrue (is_statement_in_range statement.now) }
+        requires accepted { IsOk (accepted self.old.definitions statement.now) }
+        requires sized { AreSized self.old.definitions self.old.actual self.old.counters }
+        ensures definitions { accepted self.old.definitions statement.now ≡ Ok self.new.definitions }
+        ensures state { self.new ≡ defined_by self.old statement.now self.new.definitions }
+    {
+        match statement {
+            Statement::DropPool(pool) => self.drop_pool(*pool),
+            Statement::CreatePool(_, _)
+            | Statement::AlterPool(_, _)
+            | Statement::CreateUser(_, _)
+            | Statement::AlterUser(_, _)
+            | Statement::DropUser(_)
+            | Statement::CreateRole(_)
+            | Statement::AlterRole(_, _)
+            | Statement::DropRole(_)
+            | Statement::GrantUsage(_, _)
+            | Statement::RevokeUsage(_, _)
+            | Statement::GrantRole(_, _)
+            | Statement::RevokeRole(_, _) => self.apply_statement(statement),
         }
     }
 
@@ -49,7 +77,7 @@ impl Machine {
         ensures kept { OnErr result (self.new ≡ self.old) }
     {
         accept(&self.definitions, statement)?;
-        self.apply_statement(statement);
+        self.take_statement(statement);
         Ok(Done::changing(Answer::Says(Reply::Defined)))
     }
 }
