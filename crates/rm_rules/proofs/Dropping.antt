@@ -1,9 +1,9 @@
 -- What the drop of a pool leaves of a state.
-use Rattle.std.proofs.Common.{◌≡◌, ℕ, ◌+◌, ◌-◌, ◌≤◌, Bool, true, false, ◌&&◌, ◌||◌, not, cond, eqb, leb, ltb, List, [], ◌∷◌, ◌++◌, length, Some, None, Option, Ok, refl, sym, ap, ◌∙◌, subst, arith, map, filter, sum_by, count_by}
+use Rattle.std.proofs.Common.{◌≡◌, ℕ, ◌+◌, Bool, true, false, ◌||◌, not, cond, eqb, leb, ltb, List, [], ◌∷◌, ◌++◌, length, Some, None, Option, refl, sym, ap, ◌∙◌, subst, arith, map, filter, sum_by}
 use Rattle.std.specs.Prelude.{option_map}
 use Rattle.std.specs.Option.{is_some}
 use Rattle.std.specs.List.{find, list_all, list_any}
-use Rattle.std.proofs.lemmas.List.{length-map, length-append}
+use Rattle.std.proofs.lemmas.List.{length-map}
 use Rattle.std.proofs.lemmas.List.Sums.{sum_by-cons, sum_by-append}
 use Rattle.std.proofs.lemmas.Bool.{false≢true}
 use Rattle.rm_base.specs.declared.definitions.Definitions.{Definitions}
@@ -12,7 +12,6 @@ use Rattle.rm_base.specs.declared.name.Name.{Name}
 use Rattle.rm_base.specs.Name.{same_name, general}
 use Rattle.rm_base.specs.Ranges.{passes_if_set}
 use Rattle.rm_base.proofs.Names.{same_name-eq, same_name-sym}
-use Rattle.rm_rules.specs.declared.state.Phase.{Phase}
 use Rattle.rm_rules.specs.declared.state.Holding.{Holding}
 use Rattle.rm_rules.specs.declared.state.Reserve.{Reserve}
 use Rattle.rm_rules.specs.declared.state.Session.{Session}
@@ -22,7 +21,7 @@ use Rattle.rm_rules.specs.Definitions.{pool_called, user_pools}
 use Rattle.rm_rules.specs.State.{State, without, session_called, phase_of, is_waiting, is_running, is_active, is_ended}
 use Rattle.rm_rules.specs.Holdings.{Holdings, holding, holdings, holdings_of, reserves_of, reserve_names}
 use Rattle.rm_rules.specs.Tables.{without_row, all_but}
-use Rattle.rm_rules.specs.DropPool.{in_place, named_in_place, without_pool, without_place, session_beside, runner_beside, waits_in, as_generals, transferred, goes_before, is_reserve_of, holding_beside, folded, dropped}
+use Rattle.rm_rules.specs.DropPool.{in_place, named_in_place, without_pool, without_place, session_beside, runner_beside, waits_in, as_generals, transferred, is_reserve_of, holding_beside, folded, dropped}
 use Rattle.rm_rules.specs.Sound.{IsSound, begins_with_general, are_distinct, has_pool}
 use Rattle.rm_rules.specs.Healthy.{AreWithinMemory, AreSized, AreThere, AreInPhase, AreOpened, AreNumbered, AreTimed, ran_by, began_by, was_asked, one_if}
 use Rattle.rm_rules.specs.Owed.{entries_moving, entries_waiting, entries_running, owed}

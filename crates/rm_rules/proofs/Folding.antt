@@ -182,4 +182,3 @@ folded-within h pool e distinct user found =
       general-used pool h.grants user,
       other-debts pool h.grants (left pool es) (gone pool es own) (still-apart general pool es apart),
     )
-

@@ -1,5 +1,5 @@
 -- What each event's change keeps, before the state settles.
-use Rattle.std.proofs.Common.{◌≡◌, ℕ, ◌+◌, ◌-◌, ◌*◌, ◌≤◌, ◌<◌, Bool, true, false, not, ◌||◌, cond, eqb, leb, ltb, List, [], ◌∷◌, ◌++◌, length, Some, None, Option, Ok, refl, sym, ap, ◌∙◌, arith, sum_by, count_by}
+use Rattle.std.proofs.Common.{◌≡◌, ℕ, ◌+◌, ◌*◌, ◌≤◌, ◌<◌, Bool, true, false, not, ◌||◌, cond, eqb, leb, ltb, List, [], ◌∷◌, ◌++◌, length, Some, None, Option, Ok, refl, sym, ap, ◌∙◌, arith, sum_by, count_by}
 use Rattle.std.specs.Option.{is_some}
 use Rattle.std.specs.List.{list_all}
 use Rattle.std.proofs.lemmas.List.Sums.{sum_by-cons, sum_by_push}
@@ -8,7 +8,6 @@ use Rattle.std.proofs.lemmas.Bool.{eqb-true, false≢true}
 use Rattle.std.proofs.lemmas.Bool.Decides.{nat_tests}
 use Rattle.rm_base.specs.declared.limits.TheConstants.{SESSIONS_MOST, ENTRIES_A_SESSION, ENTRIES_BEYOND}
 use Rattle.rm_base.specs.declared.definitions.Definitions.{Definitions}
-use Rattle.rm_base.specs.declared.event.Event.{Event}
 use Rattle.rm_base.specs.declared.event.Event.TheVariants.{Define}
 use Rattle.rm_base.specs.declared.name.Name.{Name}
 use Rattle.rm_base.specs.declared.reply.End.{End}
@@ -22,11 +21,11 @@ use Rattle.rm_rules.specs.declared.state.Waiter.{Waiter}
 use Rattle.rm_rules.specs.declared.state.Runner.{Runner}
 use Rattle.rm_rules.specs.State.{State, changed_first, session_called, session_pool, phase_of, with_phase, without_runner, is_idle, is_active, is_waiting, is_running, is_ended, live_queries, counted_entries, runner_of}
 use Rattle.rm_rules.specs.Acceptance.{accepted}
-use Rattle.rm_rules.specs.Change.{Change, defined, opened, new_session, submitted, new_waiter, collected, finished, is_journal_full}
+use Rattle.rm_rules.specs.Change.{defined, opened, new_session, submitted, new_waiter, collected, finished, is_journal_full}
 use Rattle.rm_rules.specs.Replay.{IsFormed}
 use Rattle.rm_rules.specs.Sound.{has_pool}
 use Rattle.rm_rules.specs.Owed.{owed, entries_moving, entries_waiting, entries_running}
-use Rattle.rm_rules.specs.Healthy.{was_asked, AreInPhase, AreThere, AreOpened, AreNumbered, IsHealthyWith, IsUnsettledWith, counted_for, defining_for, one_if}
+use Rattle.rm_rules.specs.Healthy.{was_asked, AreInPhase, AreThere, AreOpened, AreNumbered, IsHealthyWith, IsUnsettledWith, one_if}
 use Rattle.rm_rules.proofs.Taken.{and_left, and_right, all_found, all_push, all_wider, found_counted}
 use Rattle.rm_rules.proofs.Changed.{all-changed, length-changed, turns-stay, turns-leave, turns-come}
 use Rattle.rm_rules.proofs.Known.{session_pool-known, chosen-choice}

@@ -1,6 +1,6 @@
 -- No query has run for longer than the clock says that it may have, and none began after it.
-use Rattle.std.proofs.Common.{◌≡◌, ℕ, ◌+◌, ◌-◌, ◌≤◌, Bool, true, false, ◌&&◌, leb, eqb, List, [], ◌∷◌, ◌++◌, Some, refl, sym, ap, ◌∙◌, subst, arith, max}
-use Rattle.std.specs.List.{find, list_all}
+use Rattle.std.proofs.Common.{◌≡◌, ℕ, ◌≤◌, true, leb, eqb, List, Some, refl, subst, arith}
+use Rattle.std.specs.List.{list_all}
 use Rattle.std.proofs.lemmas.Bool.Decides.{nat_tests}
 use Rattle.rm_base.specs.Ranges.{passes_if_set}
 use Rattle.rm_rules.specs.declared.state.Phase.{Phase}

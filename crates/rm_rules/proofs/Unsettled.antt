@@ -1,9 +1,9 @@
 -- What every event's change keeps, before the state settles.
-use Rattle.std.proofs.Common.{◌≡◌, ℕ, ◌+◌, ◌-◌, ◌≤◌, ◌<◌, Bool, true, false, ◌&&◌, ◌||◌, not, cond, eqb, leb, ltb, List, [], ◌∷◌, ◌++◌, Some, None, Option, Ok, refl, sym, ap, ◌∙◌, subst, arith, map, count_by}
+use Rattle.std.proofs.Common.{◌≡◌, ℕ, ◌+◌, ◌≤◌, ◌<◌, Bool, true, false, ◌||◌, not, cond, eqb, ltb, List, [], ◌∷◌, ◌++◌, Some, None, Option, Ok, refl, sym, ap, ◌∙◌, subst, arith, count_by}
 use Rattle.std.specs.Option.{is_some}
-use Rattle.std.specs.List.{find, list_all, list_any}
+use Rattle.std.specs.List.{list_all, list_any}
 use Rattle.std.proofs.lemmas.List.{map_push}
-use Rattle.std.proofs.lemmas.Bool.{eqb-true, eq-eqb, false≢true}
+use Rattle.std.proofs.lemmas.Bool.{eqb-true, false≢true}
 use Rattle.std.proofs.lemmas.Bool.Decides.{nat_tests}
 use Rattle.rm_base.specs.declared.entry.MoveSeen.{MoveSeen}
 use Rattle.rm_base.specs.declared.limits.TheConstants.{MOVES_MOST}
@@ -25,14 +25,14 @@ use Rattle.rm_rules.specs.declared.state.Session.{Session}
 use Rattle.rm_rules.specs.declared.state.Waiter.{Waiter}
 use Rattle.rm_rules.specs.declared.state.Runner.{Runner}
 use Rattle.rm_rules.specs.declared.verdict.Verdict.TheVariants.{GoesTo}
-use Rattle.rm_rules.specs.State.{State, changed_first, with_phase, without_runner, runner_of, session_called, phase_of, is_running}
-use Rattle.rm_rules.specs.Holdings.{Holdings, holding, holdings, holdings_of, reserve_names}
+use Rattle.rm_rules.specs.State.{State, with_phase, without_runner, runner_of, session_called, phase_of, is_running}
+use Rattle.rm_rules.specs.Holdings.{Holdings, holding, holdings_of, reserve_names}
 use Rattle.rm_rules.specs.Accounting.{need, free, lent, taken_up}
 use Rattle.rm_rules.specs.Budget.{threshold}
 use Rattle.rm_rules.specs.Definitions.{pool_row}
 use Rattle.rm_rules.specs.Fit.{poolfit, judged}
 use Rattle.rm_rules.specs.Target.{running_time, target}
-use Rattle.rm_rules.specs.Moving.{holdings_without, allows_grant, takes, moved, leaving_for, requeued, stopping, with_runner_as, moved_on, asked_to_leave, gave_way, asked_to_stop}
+use Rattle.rm_rules.specs.Moving.{allows_grant, takes, moved, leaving_for, requeued, stopping, with_runner_as, moved_on, asked_to_leave, gave_way, asked_to_stop}
 use Rattle.rm_rules.specs.Change.{Change, within_moments, withdrawn}
 use Rattle.rm_rules.specs.Deadlines.{ended_as}
 use Rattle.rm_rules.specs.Replay.{IsFormed}
@@ -40,7 +40,7 @@ use Rattle.rm_rules.specs.Acceptance.{counted, accepted}
 use Rattle.rm_rules.specs.Refusals.{pool_missing, changes_full}
 use Rattle.rm_rules.specs.DropPool.{without_pool, pool_built_in, pool_needed, drop_pool_refusal, goes_before, dropped}
 use Rattle.rm_rules.specs.Sound.{IsSound, has_pool}
-use Rattle.rm_rules.specs.Owed.{owed, entries_moving, entries_waiting, entries_running}
+use Rattle.rm_rules.specs.Owed.{owed, entries_running}
 use Rattle.rm_rules.specs.Healthy.{AreInPhase, AreThere, AreWithinMemory, IsHealthyWith, IsUnsettledWith, began_by, was_asked, counted_for, defining_for, one_if}
 use Rattle.rm_rules.proofs.Taken.{and_left, and_both, all_push, all_without, all_found, found_passes, counted_among}
 use Rattle.rm_rules.proofs.Found.{found-split}
@@ -54,7 +54,7 @@ use Rattle.rm_rules.proofs.Covering.{held-finished}
 use Rattle.rm_rules.proofs.Admitting.{one_or_none}
 use Rattle.rm_rules.proofs.Ending.{healthy-ended-more}
 use Rattle.rm_rules.proofs.Closing.{unsettled-closed}
-use Rattle.rm_rules.proofs.Timed.{within, is_within, timed-goes, IsTimed, runner-timed}
+use Rattle.rm_rules.proofs.Timed.{is_within, timed-goes, runner-timed}
 use Rattle.rm_rules.proofs.Known.{general-there}
 use Rattle.rm_rules.proofs.Chains.{target-there, target-moves}
 use Rattle.rm_rules.proofs.Verdicts.{verdict-target, verdict-free}

@@ -1,5 +1,5 @@
 -- DROP RESOURCE POOL: what it leaves of the definitions, and what becomes of the pool's bytes and of its queries.
-use Rattle.std.specs.Prelude.{Bool, true, false, not, ℤ, List, [], ◌∷◌, ◌++◌, Option, Some, None, option_map, find, filter, map, if◌then◌else◌}
+use Rattle.std.specs.Prelude.{Bool, true, false, not, List, [], ◌∷◌, ◌++◌, Option, Some, None, option_map, find, filter, map, if◌then◌else◌}
 use Rattle.std.specs.Int.Signed.{lt_z}
 use Rattle.rm_base.specs.declared.definitions.Definitions.{Definitions}
 use Rattle.rm_base.specs.declared.rows.PoolRow.{PoolRow}
