@@ -10,3 +10,4 @@ pub mod Settling
 pub mod Entering
 pub mod Looking
 pub mod Keeping
+pub mod DropLemmas
