@@ -5,10 +5,11 @@
 ghost use Rattle.std.specs.Prelude.{◌≡◌, Ok, Err, None, IsTrue, IsOk, IfErr, OnOk};
 ghost use Rattle.rm_base.specs.Ranges.{is_statement_in_range};
 ghost use Rattle.rm_rules.specs.Sound.{IsSound};
-ghost use Rattle.rm_rules.specs.Acceptance.{is_judged, refusal_of, left_by, accepted};
+ghost use Rattle.rm_rules.specs.Acceptance.{refusal_of, left_by, accepted};
 
 mod after;
 mod chains;
+mod dropping;
 mod grants;
 mod known;
 mod pools;
@@ -20,6 +21,7 @@ mod soundness;
 mod tables;
 mod users;
 
+use crate::dropping::{drop_pool, drop_pool_refusal};
 use crate::grants::{
     grant_role, grant_role_refusal, grant_usage, grant_usage_refusal, revoke_role,
     revoke_role_refusal, revoke_usage, revoke_usage_refusal,
@@ -43,7 +45,6 @@ pub use soundness::sound;
 pub fn accept(definitions: &Definitions, statement: &Statement) -> Result<(), Refusal>
     requires sound { IsSound definitions.now }
     requires formed { IsTrue (is_statement_in_range statement.now) }
-    requires judged { IsTrue (is_judged statement.now) }
     ensures ok { OnOk result (IsOk (accepted definitions.now statement.now)) }
     ensures err { IfErr result (λ refusal. accepted definitions.now statement.now ≡ Err refusal) }
 {
@@ -57,7 +58,6 @@ pub fn accept(definitions: &Definitions, statement: &Statement) -> Result<(), Re
 pub fn apply(definitions: &mut Definitions, statement: &Statement)
     requires sound { IsSound definitions.old }
     requires formed { IsTrue (is_statement_in_range statement.now) }
-    requires judged { IsTrue (is_judged statement.now) }
     requires accepted { IsOk (accepted definitions.old statement.now) }
     ensures changed { accepted definitions.old statement.now ≡ Ok definitions.new }
     ensures sound { IsSound definitions.new }
@@ -81,7 +81,7 @@ fn refusal_of(definitions: &Definitions, statement: &Statement) -> Option<Refusa
             let row = altered_pool(definitions, *name, change);
             alter_pool_refusal(definitions, *name, change, &row)
         }
-        Statement::DropPool(_) => None,
+        Statement::DropPool(name) => drop_pool_refusal(definitions, *name),
         Statement::CreateUser(name, change) => create_user_refusal(definitions, *name, change),
         Statement::AlterUser(name, change) => alter_user_refusal(definitions, *name, change),
         Statement::DropUser(name) => drop_user_refusal(definitions, *name),
@@ -105,7 +105,7 @@ fn change(definitions: &mut Definitions, statement: &Statement)
     match statement {
         Statement::CreatePool(name, change) => create_pool(definitions, *name, change),
         Statement::AlterPool(name, change) => alter_pool(definitions, *name, change),
-        Statement::DropPool(_) => {}
+        Statement::DropPool(name) => drop_pool(definitions, *name),
         Statement::CreateUser(name, change) => create_user(definitions, *name, change),
         Statement::AlterUser(name, change) => alter_user(definitions, *name, change),
         Statement::DropUser(name) => drop_user(definitions, *name),

@@ -9,13 +9,13 @@ pub change-requires-clause-left : goal.change-requires-clause-left
 change-requires-clause-left c =
     let d = c.args.definitions.now in
     let statement = c.args.statement.now in
-    (left-right d statement c.requires.sound c.requires.formed c.requires.judged (ok-free (refusal_of d statement) (counted (left_by d statement)) c.requires.accepted)).sound
+    (left-right d statement c.requires.sound c.requires.formed (ok-free (refusal_of d statement) (counted (left_by d statement)) c.requires.accepted)).sound
 
 pub overflow_add-definitions : goal.overflow_add-definitions
 overflow_add-definitions c =
     let d = c.args.definitions.now in
     let statement = c.args.statement.now in
-    let left = left-right d statement c.requires.sound c.requires.formed c.requires.judged (ok-free (refusal_of d statement) (counted (left_by d statement)) c.requires.accepted) in
+    let left = left-right d statement c.requires.sound c.requires.formed (ok-free (refusal_of d statement) (counted (left_by d statement)) c.requires.accepted) in
     omega (arith, left.changes, (left-kept d statement).changes, ap (λ (x : Definitions). x.changes) c.change.ensures)
 
 pub returns-clause-changed : goal.returns-clause-changed
@@ -29,4 +29,4 @@ returns-clause-sound c =
     let d = c.args.definitions.now in
     let statement = c.args.statement.now in
     let changed = ok-done (refusal_of d statement) (counted (left_by d statement)) c.requires.accepted ∙ ap (λ (x : Definitions). Ok (counted x)) (sym c.change.ensures) in
-    accepted-sound d statement (counted c.change.new.definitions) c.requires.sound c.requires.formed c.requires.judged changed
+    accepted-sound d statement (counted c.change.new.definitions) c.requires.sound c.requires.formed changed
