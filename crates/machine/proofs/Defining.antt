@@ -11,7 +11,8 @@ use Rattle.rm_rules.specs.declared.state.Reserve.{Reserve}
 use Rattle.rm_rules.specs.Definitions.{user_pools}
 use Rattle.rm_rules.specs.State.{State, none_ended}
 use Rattle.rm_rules.specs.Holdings.{Holdings, holdings_of}
-use Rattle.rm_rules.specs.Acceptance.{accepted, is_judged}
+use Rattle.rm_rules.specs.Acceptance.{accepted}
+use Rattle.rm_rules.specs.DropPool.{drops_none}
 use Rattle.rm_rules.specs.Change.{with_place, defined}
 use Rattle.rm_rules.specs.Sound.{IsSound, has_pool, begins_with_general}
 use Rattle.rm_rules.specs.Healthy.{AreSized}
@@ -57,17 +58,17 @@ as-many d new (keeps_names same) few =
 as-many d new (adds_name row absent last) few = absurd (omega (arith, few, ap (λ (l : List PoolRow). length l) last, length_push d.pools row))
 
 -- which of both it is, the code sees by the number of pools
-pub added : (d new : Definitions) (statement : Statement) (z : PoolRow) (count : ℕ) (rows : List PoolRow) → IsSound d → is_judged statement ≡ true → accepted d statement ≡ Ok new
+pub added : (d new : Definitions) (statement : Statement) (z : PoolRow) (count : ℕ) (rows : List PoolRow) → IsSound d → drops_none statement ≡ true → accepted d statement ≡ Ok new
     → count ≡ length d.pools → rows ≡ new.pools → count < length rows → IsAdded d new (get_or rows count z)
-added d new statement z count rows sound judged accepts old now more =
+added d new statement z count rows sound none accepts old now more =
     subst (λ (k : ℕ). IsAdded d new (get_or rows k z)) (sym old)
     (subst (λ (l : List PoolRow). IsAdded d new (get_or l (length d.pools) z)) (sym now)
-    (one-more d new z (accepted-names d statement new accepts) sound (omega (arith, more, old, ap (λ (l : List PoolRow). length l) now))))
+    (one-more d new z (accepted-names d statement new none accepts) sound (omega (arith, more, old, ap (λ (l : List PoolRow). length l) now))))
 
-pub altered : (d new : Definitions) (statement : Statement) (count : ℕ) (rows : List PoolRow) → IsSound d → is_judged statement ≡ true → accepted d statement ≡ Ok new
+pub altered : (d new : Definitions) (statement : Statement) (count : ℕ) (rows : List PoolRow) → IsSound d → drops_none statement ≡ true → accepted d statement ≡ Ok new
     → count ≡ length d.pools → rows ≡ new.pools → length rows ≤ count → IsAltered d new
-altered d new statement count rows sound judged accepts old now few =
-    as-many d new (accepted-names d statement new accepts) (omega (arith, few, old, ap (λ (l : List PoolRow). length l) now))
+altered d new statement count rows sound none accepts old now few =
+    as-many d new (accepted-names d statement new none accepts) (omega (arith, few, old, ap (λ (l : List PoolRow). length l) now))
 
 -- there are as many reserves as pools but GENERAL
 sizes-count : (es : List Reserve) → length (map (λ (e : Reserve). e.size) es) ≡ length es
@@ -97,7 +98,7 @@ bytes-altered m new h sized alters = kept-stand (seen_state m) new sized alters.
 
 -- the state with the new definitions
 seen-added : (m : Inside) (new : Definitions) (row : PoolRow) (b : Holdings) (counters : List EndCounts) → IsAdded m.definitions new row → b ≡ with_reserve m.accounts row.name
-    → counters ≡ m.counters ++ none_ended ∷ [] → seen_state (record m { definitions = new; accounts = b; counters = counters }) ≡ (defined (seen_state m) new).state
+    → counters ≡ m.counters ++ none_ended ∷ [] → seen_state (record m { definitions = new; accounts = b; counters = counters }) ≡ defined (seen_state m) new
 seen-added m new row b counters h is more =
     let sizes = map_push (λ (x : Reserve). x.size) m.accounts.reserves (record { pool = row.name; size = 0 }) ∙ sym (place-more m.definitions new 0 (seen_state m).actual h.count) in
     ap (λ (x : Holdings). let t : State = record (seen_state m) { definitions = new; in_force = x.in_force; actual = map (λ (e : Reserve). e.size) x.reserves; counters = counters } in t) is
@@ -107,15 +108,15 @@ seen-added m new row b counters h is more =
 
 pub state-added : (m : Inside) (s : State) (new : Definitions) (row : PoolRow) (b : Holdings) (counters : List EndCounts) → seen_state m ≡ s → IsAdded m.definitions new row
     → b ≡ with_reserve m.accounts row.name → counters ≡ m.counters ++ none_ended ∷ []
-    → seen_state (record m { definitions = new; accounts = b; counters = counters }) ≡ (defined s new).state
+    → seen_state (record m { definitions = new; accounts = b; counters = counters }) ≡ defined s new
 state-added m s new row b counters same h is more =
-    seen-added m new row b counters h is more ∙ ap (λ (t : State). (defined t new).state) same
+    seen-added m new row b counters h is more ∙ ap (λ (t : State). defined t new) same
 
-seen-altered : (m : Inside) (new : Definitions) → IsAltered m.definitions new → seen_state (record m { definitions = new }) ≡ (defined (seen_state m) new).state
+seen-altered : (m : Inside) (new : Definitions) → IsAltered m.definitions new → seen_state (record m { definitions = new }) ≡ defined (seen_state m) new
 seen-altered m new h =
     ap (λ (ns : List ℕ). let t : State = record (seen_state m) { definitions = new; actual = ns } in t) (sym (place-same m.definitions new 0 (seen_state m).actual h.count))
     ∙ ap (λ (cs : List EndCounts). let t : State = record (seen_state m) { definitions = new; actual = with_place m.definitions new 0 (seen_state m).actual; counters = cs } in t)
     (sym (place-same m.definitions new none_ended m.counters h.count))
 
-pub state-altered : (m : Inside) (s : State) (new : Definitions) → seen_state m ≡ s → IsAltered m.definitions new → seen_state (record m { definitions = new }) ≡ (defined s new).state
-state-altered m s new same h = seen-altered m new h ∙ ap (λ (t : State). (defined t new).state) same
+pub state-altered : (m : Inside) (s : State) (new : Definitions) → seen_state m ≡ s → IsAltered m.definitions new → seen_state (record m { definitions = new }) ≡ defined s new
+state-altered m s new same h = seen-altered m new h ∙ ap (λ (t : State). defined t new) same

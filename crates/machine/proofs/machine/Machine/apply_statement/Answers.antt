@@ -20,7 +20,7 @@ add_pool-requires-clause-absent c =
     let sound = sound_inside m c.args.self.now c.self.view_is c.requires.sound in
     let sized = sized_inside m c.args.self.now c.self.view_is c.requires.sized in
     let row = get_or c.rows-rows.result.now c.len-pools.result c.index-rows-pools.result in
-    let h = added m.definitions c.apply.new.definitions c.args.statement.now c.index-rows-pools.result c.len-pools.result c.rows-rows.result.now sound c.requires.judged c.apply.ensures.changed c.len-pools.ensures.value c.rows-rows.ensures.rows c.if-pools-rows.true in
+    let h = added m.definitions c.apply.new.definitions c.args.statement.now c.index-rows-pools.result c.len-pools.result c.rows-rows.result.now sound c.requires.drops_none c.apply.ensures.changed c.len-pools.ensures.value c.rows-rows.ensures.rows c.if-pools-rows.true in
     name_inside m (seen_state m) row.name refl c.self.invariant sound sized ∙ h.absent
 
 pub add_pool-requires-clause-room : goal.add_pool-requires-clause-room
@@ -36,7 +36,7 @@ invariant_of-self c =
     let sound = sound_inside m c.args.self.now c.self.view_is c.requires.sound in
     let sized = sized_inside m c.args.self.now c.self.view_is c.requires.sized in
     let row = get_or c.rows-rows.result.now c.len-pools.result c.index-rows-pools.result in
-    let h = added m.definitions c.apply.new.definitions c.args.statement.now c.index-rows-pools.result c.len-pools.result c.rows-rows.result.now sound c.requires.judged c.apply.ensures.changed c.len-pools.ensures.value c.rows-rows.ensures.rows c.if-pools-rows.true in
+    let h = added m.definitions c.apply.new.definitions c.args.statement.now c.index-rows-pools.result c.len-pools.result c.rows-rows.result.now sound c.requires.drops_none c.apply.ensures.changed c.len-pools.ensures.value c.rows-rows.ensures.rows c.if-pools-rows.true in
     record {
       bytes = bytes-added m c.apply.new.definitions row c.add_pool.new.self c.self.invariant sized h c.add_pool.ensures;
       journal = c.self.invariant.journal;
@@ -48,7 +48,7 @@ invariant_of-self-else-pools-rows c =
     let m = c.self.inside in
     let sound = sound_inside m c.args.self.now c.self.view_is c.requires.sound in
     let sized = sized_inside m c.args.self.now c.self.view_is c.requires.sized in
-    let h = altered m.definitions c.apply.new.definitions c.args.statement.now c.len-pools.result c.rows-rows.result.now sound c.requires.judged c.apply.ensures.changed c.len-pools.ensures.value c.rows-rows.ensures.rows c.if-pools-rows.false in
+    let h = altered m.definitions c.apply.new.definitions c.args.statement.now c.len-pools.result c.rows-rows.result.now sound c.requires.drops_none c.apply.ensures.changed c.len-pools.ensures.value c.rows-rows.ensures.rows c.if-pools-rows.false in
     record {
       bytes = bytes-altered m c.apply.new.definitions c.self.invariant sized h;
       journal = c.self.invariant.journal;
@@ -68,7 +68,7 @@ returns-then-pools-rows-clause-state c =
     let m = c.self.inside in
     let sound = sound_inside m c.args.self.now c.self.view_is c.requires.sound in
     let row = get_or c.rows-rows.result.now c.len-pools.result c.index-rows-pools.result in
-    let h = added m.definitions c.apply.new.definitions c.args.statement.now c.index-rows-pools.result c.len-pools.result c.rows-rows.result.now sound c.requires.judged c.apply.ensures.changed c.len-pools.ensures.value c.rows-rows.ensures.rows c.if-pools-rows.true in
+    let h = added m.definitions c.apply.new.definitions c.args.statement.now c.index-rows-pools.result c.len-pools.result c.rows-rows.result.now sound c.requires.drops_none c.apply.ensures.changed c.len-pools.ensures.value c.rows-rows.ensures.rows c.if-pools-rows.true in
     state-added m c.args.self.now c.apply.new.definitions row c.add_pool.new.self c.add.new.self c.self.view_is h c.add_pool.ensures
     (c.add.ensures ∙ ap (λ (e : EndCounts). m.counters ++ e ∷ []) c.none_ended.ensures)
 
@@ -76,5 +76,5 @@ pub returns-else-pools-rows-clause-state : goal.returns-else-pools-rows-clause-s
 returns-else-pools-rows-clause-state c =
     let m = c.self.inside in
     let sound = sound_inside m c.args.self.now c.self.view_is c.requires.sound in
-    let h = altered m.definitions c.apply.new.definitions c.args.statement.now c.len-pools.result c.rows-rows.result.now sound c.requires.judged c.apply.ensures.changed c.len-pools.ensures.value c.rows-rows.ensures.rows c.if-pools-rows.false in
+    let h = altered m.definitions c.apply.new.definitions c.args.statement.now c.len-pools.result c.rows-rows.result.now sound c.requires.drops_none c.apply.ensures.changed c.len-pools.ensures.value c.rows-rows.ensures.rows c.if-pools-rows.false in
     state-altered m c.args.self.now c.apply.new.definitions c.self.view_is h

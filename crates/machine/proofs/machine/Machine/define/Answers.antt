@@ -6,7 +6,7 @@ pub accept-requires-clause-sound : goal.accept-requires-clause-sound
 accept-requires-clause-sound c = sound_inside c.self.inside c.args.self.now c.self.view_is c.requires.healthy.sound
 
 pub accept-requires-clause-formed : goal.accept-requires-clause-formed
-accept-requires-clause-formed c = well_formed-in_range c.args.statement.now c.requires.formed.1
+accept-requires-clause-formed c = well_formed-in_range c.args.statement.now c.requires.formed
 
-pub apply_statement-requires-clause-in_range : goal.apply_statement-requires-clause-in_range
-apply_statement-requires-clause-in_range c = well_formed-in_range c.args.statement.now c.requires.formed.1
+pub take_statement-requires-clause-in_range : goal.take_statement-requires-clause-in_range
+take_statement-requires-clause-in_range c = well_formed-in_range c.args.statement.now c.requires.formed
