@@ -3,6 +3,9 @@ pub mod Ends
 pub mod Running
 pub mod Submitting
 pub mod Inside
+pub mod Moves
+pub mod Moving
+pub mod Asking
 pub mod Starting
 pub mod Defining
 pub mod Looping

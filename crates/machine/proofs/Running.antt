@@ -12,7 +12,7 @@ use Rattle.accounts.specs.Accounts.{account_of}
 use Rattle.accounts.proofs.Standing.{account-stands}
 
 -- what is found stands behind those that do not pass
-record IsBehind {A : Type 0} (test : A → Bool) (xs : List A) (y : A) : Type 0 where
+pub record IsBehind {A : Type 0} (test : A → Bool) (xs : List A) (y : A) : Type 0 where
   pub rest : List A
   pub split : xs ≡ take_while (λ x. not (test x)) xs ++ y ∷ rest
 
@@ -25,7 +25,7 @@ behind-turn test x y xs false found more =
     let one : 1 + prefix_len (λ z. not (test z)) xs ≡ suc (prefix_len (λ z. not (test z)) xs) = omega arith in
     (h.rest, rw one (ap (λ l. x ∷ l) h.split))
 
-found-behind : {A : Type 0} (test : A → Bool) (xs : List A) (y : A) → find test xs ≡ Some y → IsBehind test xs y
+pub found-behind : {A : Type 0} (test : A → Bool) (xs : List A) (y : A) → find test xs ≡ Some y → IsBehind test xs y
 found-behind test [] y found = let none : None ≡ Some y = found in absurd (cc)
 found-behind test (x ∷ xs) y found =
     let h = behind-turn test x y xs (test x) found (found-behind test xs y) in

@@ -5,4 +5,5 @@ mod counters;
 pub mod desk;
 mod done;
 mod machine;
+mod moves;
 mod sessions;
