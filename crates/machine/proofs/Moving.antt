@@ -21,6 +21,7 @@ use Rattle.rm_rules.specs.Moving.{holdings_without, allows_grant, takes}
 use Rattle.rm_rules.specs.Healthy.{AreTimed, AreInPhase, AreNumbered, IsHealthy, began_by}
 use Rattle.rm_rules.proofs.Once.{is-itself}
 use Rattle.rm_rules.proofs.Pools.{sum_by-map}
+use Rattle.rm_rules.proofs.Sizes.{sound_memory_most}
 use Rattle.rm_rules.proofs.Taken.{and_left, and_right, all_found, sum_without, length_without}
 use Rattle.accounts.specs.declared.moves.IfMoved.{IfMoved}
 use Rattle.accounts.specs.Accounts.{has_query, grant_of, taken, given_back}
@@ -43,12 +44,15 @@ pub record HasRun (clock : ℕ) (r : Runner) : Type 0 where
   pub ran : r.ran ≤ r.start
   pub started : r.start ≤ clock
 
-pub has-run : (s : State) (session : ℕ) (r : Runner) → AreTimed s.clock s.waiting s.running → runner_of s.running session ≡ Some r → HasRun s.clock r
+has-run : (s : State) (session : ℕ) (r : Runner) → AreTimed s.clock s.waiting s.running → runner_of s.running session ≡ Some r → HasRun s.clock r
 has-run s session r timed found =
     let both : (leb r.ran r.start && leb r.start s.clock) ≡ true = all_found (began_by s.clock) (λ (x : Runner). eqb x.session session) s.running r timed.runs found in
     let first : leb r.ran r.start ≡ true = and_left (leb r.ran r.start) (leb r.start s.clock) both in
     let second : leb r.start s.clock ≡ true = and_right (leb r.ran r.start) (leb r.start s.clock) both in
     record { ran = grind (arith, nat_tests); started = grind (arith, nat_tests) }
+
+pub run-inside : (m : Inside) (s : State) (session : ℕ) (r : Runner) → seen_state m ≡ s → AreTimed s.clock s.waiting s.running → runner_of s.running session ≡ Some r → HasRun m.clock r
+run-inside m s session r same timed found = subst (λ (t : State). HasRun t.clock r) (sym same) (has-run s session r timed found)
 
 -- its grant is within the memory
 pub grant-fits : (s : State) (session : ℕ) (r : Runner) → IsHealthy s → runner_of s.running session ≡ Some r → r.grant ≤ MEMORY_MOST
@@ -57,7 +61,7 @@ grant-fits s session r h found =
       arith,
       h.covered.held.granted,
       h.covered.held.in_force_most,
-      h.sound.memory,
+      sound_memory_most s.definitions h.sound,
       sum_by-map (λ (g : Holding). g.bytes) holding s.running,
       sum_without (λ (x : Runner). x.grant) (λ (x : Runner). eqb x.session session) r s.running found,
     )
@@ -136,8 +140,8 @@ bytes-moved m s r now pool a left running same h numbered found holds is out mor
     ap (bytes_under m.definitions a) (more ∙ ap (λ (l : List Runner). l ++ now ∷ []) out)
     ∙ subst (λ (b : Holdings). bytes_under m.definitions b (without_runner r.session m.running ++ now ∷ []) ≡ b) (sym is) (last ∙ whole)
 
--- there is room for it among those that run, and among those that wait
-pub room-running : (s : State) (session : ℕ) (r : Runner) → IsHealthy s → runner_of s.running session ≡ Some r → length (without_runner session s.running) < SESSIONS_MOST
+-- there is room for it among those that run
+room-running : (s : State) (session : ℕ) (r : Runner) → IsHealthy s → runner_of s.running session ≡ Some r → length (without_runner session s.running) < SESSIONS_MOST
 room-running s session r h found =
     omega (
       arith,
@@ -147,19 +151,19 @@ room-running s session r h found =
       count_by-le-length (λ (x : Session). is_active x.phase) s.sessions,
     )
 
-pub room-waiting : (s : State) (session : ℕ) (r : Runner) → IsHealthy s → runner_of s.running session ≡ Some r → length s.waiting < SESSIONS_MOST
-room-waiting s session r h found =
-    omega (
-      arith,
-      h.in_phase.active,
-      h.opened.few,
-      length_without (λ (x : Runner). eqb x.session session) r s.running found,
-      count_by-le-length (λ (x : Session). is_active x.phase) s.sessions,
-    )
+pub room-inside : (m : Inside) (s : State) (session : ℕ) (r : Runner) (left : List Runner) → seen_state m ≡ s → IsHealthy s → runner_of s.running session ≡ Some r
+    → left ≡ without_runner session m.running → length left < SESSIONS_MOST
+room-inside m s session r left same h found is =
+    subst (λ (l : List Runner). length l < SESSIONS_MOST) (sym (is ∙ ap (λ (t : State). without_runner session t.running) same)) (room-running s session r h found)
 
--- and its number waits nowhere
-pub waits-nowhere : (s : State) (session : ℕ) (r : Runner) → AreNumbered s.last_query s.waiting s.running → runner_of s.running session ≡ Some r → waits_as s.waiting r.query ≡ false
+-- its number waits nowhere
+waits-nowhere : (s : State) (session : ℕ) (r : Runner) → AreNumbered s.last_query s.waiting s.running → runner_of s.running session ≡ Some r → waits_as s.waiting r.query ≡ false
 waits-nowhere s session r numbered found =
     let one : cond (eqb r.query r.query) 1 0 ≡ 1 = ap {B = ℕ} (λ (c : Bool). cond c 1 0) (is-itself r.query) in
     none-any (λ (w : Waiter). eqb w.query r.query) s.waiting
     (omega (arith, one, numbered.once r.query, sum_without (λ (x : Runner). cond (eqb x.query r.query) 1 0) (λ (x : Runner). eqb x.session session) r s.running found))
+
+pub waits-inside : (m : Inside) (s : State) (r : Runner) (w : Waiter) → seen_state m ≡ s → AreNumbered s.last_query s.waiting s.running → runner_of s.running r.session ≡ Some r
+    → w.query ≡ r.query → waits_as m.waiting w.query ≡ false
+waits-inside m s r w same numbered found is =
+    ap (λ (n : ℕ). waits_as m.waiting n) is ∙ ap (λ (t : State). waits_as t.waiting r.query) same ∙ waits-nowhere s r.session r numbered found

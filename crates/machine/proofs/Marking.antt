@@ -1,6 +1,8 @@
 -- The last moves, and a running query that runs on with other marks.
 use Rattle.std.proofs.Common.{◌≡◌, ◌≤◌, ◌<◌, ℕ, ◌-◌, Bool, true, false, cond, eqb, List, [], ◌∷◌, ◌++◌, Option, Some, None, length, drop, remove, map, refl, sym, ap, ◌∙◌, arith}
 use Rattle.std.specs.List.{find}
+use Rattle.std.proofs.lemmas.Bool.{eqb-true, false≢true}
+use Rattle.std.proofs.lemmas.Bool.Decides.{nat_tests}
 use Rattle.std.proofs.lemmas.List.{length_push}
 use Rattle.rm_base.specs.declared.entry.MoveSeen.{MoveSeen}
 use Rattle.rm_base.specs.declared.limits.TheConstants.{MOVES_KEPT}
@@ -12,6 +14,14 @@ use Rattle.rm_rules.specs.Moving.{with_move, with_runner_as}
 use Rattle.machine.specs.declared.machine.Machine.TheInside.{Inside}
 use Rattle.machine.specs.Inside.{seen_state, IsTied}
 use Rattle.machine.proofs.Inside.{bytes_under}
+
+-- a list that is not full has room
+room-turn : (n most : ℕ) (full b : Bool) → eqb n most ≡ b → n ≤ most → (n ≡ most → full ≡ true) → full ≡ false → n < most
+room-turn n most full true e within at open_yet = absurd (false≢true (sym open_yet ∙ at (eqb-true n most e)))
+room-turn n most full false e within at open_yet = grind (arith, nat_tests)
+
+pub has-room : (n most : ℕ) (full : Bool) → n ≤ most → (n ≡ most → full ≡ true) → full ≡ false → n < most
+has-room n most full within at open_yet = room-turn n most full (eqb n most) refl within at open_yet
 
 -- one more, where the first is forgotten and where there is room
 pub moves-full : (moves left now : List MoveSeen) (seen : MoveSeen) → length moves ≡ MOVES_KEPT → left ≡ remove moves 0 → now ≡ left ++ seen ∷ [] → now ≡ with_move moves seen
