@@ -1,2 +1,3 @@
 pub mod Steps
 pub mod PoolCaps
+pub mod Moves

@@ -2,8 +2,8 @@
 //! on. Times are in milliseconds. It takes no memory.
 #![tactic(auto)]
 
-ghost use Rattle.std.specs.Prelude.{◌≡◌, ◌≤◌, ◌*◌, IsTrue, IfSome};
-ghost use Rattle.rm_base.specs.declared.limits.TheConstants.{MOMENT_MOST};
+ghost use Rattle.std.specs.Prelude.{◌≡◌, ◌<◌, ◌≤◌, ◌*◌, IsTrue, IfSome};
+ghost use Rattle.rm_base.specs.declared.limits.TheConstants.{MOMENT_MOST, MOVES_MOST};
 ghost use Rattle.rm_base.specs.declared.name.Name.{Name};
 ghost use Rattle.rm_rules.specs.declared.verdict.Verdict.TheVariants.{GoesTo};
 ghost use Rattle.rm_rules.specs.Sound.{IsSound, has_pool};
@@ -46,7 +46,7 @@ pub fn target(definitions: &Definitions, pool: Name, running: u64, moves: u32) -
 }
 
 /// What a check comes to for a query that has run this long in a session with this cap of its own. Where it is to go on
-/// elsewhere, that pool is there.
+/// elsewhere, that pool is there, and the query was not yet moved as often as it may be.
 pub fn verdict(
     definitions: &Definitions,
     query: &Runner,
@@ -56,6 +56,7 @@ pub fn verdict(
     requires { IsSound definitions.now }
     ensures value { result ≡ verdict definitions.now query.now session_cap running }
     ensures there { (to : Name) → result ≡ GoesTo to → IsTrue (has_pool definitions.now to) }
+    ensures moves { (to : Name) → result ≡ GoesTo to → query.now.moves < MOVES_MOST }
 {
     if query.cancelled {
         return Verdict::Says(Reply::Stopping);

@@ -3,6 +3,8 @@ pub mod Ends
 pub mod Running
 pub mod Submitting
 pub mod Inside
+pub mod Marking
+pub mod Moving
 pub mod Starting
 pub mod Defining
 pub mod Looping

@@ -1,6 +1,7 @@
 -- A running query by its session, and by its place.
-use Rattle.std.proofs.Common.{◌≡◌, ◌≤◌, ◌<◌, ℕ, ◌+◌, suc, Bool, true, false, not, cond, eqb, Option, Some, None, List, [], ◌∷◌, ◌++◌, length, get_or, take, drop, sym, ap, ◌∙◌, take_while, take-append-drop, arith, count_by}
+use Rattle.std.proofs.Common.{◌≡◌, ◌≤◌, ◌<◌, ℕ, ◌+◌, suc, Bool, true, false, not, cond, eqb, Option, Some, None, List, [], ◌∷◌, ◌++◌, length, get_or, take, drop, sym, ap, subst, ◌∙◌, take_while, take-append-drop, arith, count_by}
 use Rattle.std.specs.List.{find, prefix_len}
+use Rattle.std.proofs.lemmas.Bool.{eqb-true}
 use Rattle.std.proofs.lemmas.List.{drop_more}
 use Rattle.rm_rules.specs.declared.state.Runner.{Runner}
 use Rattle.rm_rules.specs.State.{State, without_runner, runner_of}
@@ -8,11 +9,12 @@ use Rattle.rm_rules.specs.Holdings.{holding, holdings, holdings_of}
 use Rattle.rm_rules.specs.Accounting.{account_behind}
 use Rattle.rm_rules.specs.Healthy.{AreNumbered}
 use Rattle.rm_rules.proofs.Found.{without-unfound}
+use Rattle.rm_rules.proofs.Taken.{found_passes}
 use Rattle.accounts.specs.Accounts.{account_of}
 use Rattle.accounts.proofs.Standing.{account-stands}
 
 -- what is found stands behind those that do not pass
-record IsBehind {A : Type 0} (test : A → Bool) (xs : List A) (y : A) : Type 0 where
+pub record IsBehind {A : Type 0} (test : A → Bool) (xs : List A) (y : A) : Type 0 where
   pub rest : List A
   pub split : xs ≡ take_while (λ x. not (test x)) xs ++ y ∷ rest
 
@@ -25,11 +27,16 @@ behind-turn test x y xs false found more =
     let one : 1 + prefix_len (λ z. not (test z)) xs ≡ suc (prefix_len (λ z. not (test z)) xs) = omega arith in
     (h.rest, rw one (ap (λ l. x ∷ l) h.split))
 
-found-behind : {A : Type 0} (test : A → Bool) (xs : List A) (y : A) → find test xs ≡ Some y → IsBehind test xs y
+pub found-behind : {A : Type 0} (test : A → Bool) (xs : List A) (y : A) → find test xs ≡ Some y → IsBehind test xs y
 found-behind test [] y found = let none : None ≡ Some y = found in absurd (cc)
 found-behind test (x ∷ xs) y found =
     let h = behind-turn test x y xs (test x) found (found-behind test xs y) in
     record { rest = h.0; split = h.1 }
+
+-- a session's running query is found by its own session
+pub running-own : (xs : List Runner) (n : ℕ) (r : Runner) → runner_of xs n ≡ Some r → runner_of xs r.session ≡ Some r
+running-own xs n r found =
+    subst (λ (k : ℕ). runner_of xs k ≡ Some r) (sym (eqb-true r.session n (found_passes (λ (x : Runner). eqb x.session n) r xs found))) found
 
 -- no two run with one number
 pub once-running : (s : State) → AreNumbered s.last_query s.waiting s.running → (query : ℕ) → count_by (λ (r : Runner). eqb r.query query) s.running ≤ 1

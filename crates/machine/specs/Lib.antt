@@ -1,5 +1,6 @@
 pub mod Done
 pub mod Inside
 pub mod Settling
+pub mod Taking
 pub mod Looked
 pub mod Desk

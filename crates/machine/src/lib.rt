@@ -6,4 +6,5 @@ pub mod desk;
 mod done;
 mod dropping;
 mod machine;
+mod moves;
 mod sessions;

@@ -5,14 +5,14 @@ ghost use Rattle.rm_rules.specs.State.{none_ended, is_defined};
 
 use crate::counters::{Counters, none_ended};
 use crate::done::Done;
+use crate::moves::Moves;
 use crate::sessions::{Runners, Sessions};
 use accounts::Accounts;
 use pool_queue::Queue;
-use rm_base::bounded::Bounded;
 use rm_base::definitions::Definitions;
-use rm_base::entry::{Answered, Entry, MoveSeen};
+use rm_base::entry::{Answered, Entry};
 use rm_base::event::Event;
-use rm_base::limits::{CHANGES_MOST, ENTRIES_BEYOND, MOVES_KEPT};
+use rm_base::limits::{CHANGES_MOST, ENTRIES_BEYOND};
 use rm_base::moment::Moment;
 use rm_base::reply::Reply;
 use rm_base::rows::PoolRow;
@@ -20,6 +20,9 @@ use rm_rules::answer::Answer;
 use std::alloc::{AllocError, Global};
 use std::marker::Model;
 
+mod cancel;
+mod cap;
+mod check;
 mod choose;
 mod close;
 mod define;
@@ -28,15 +31,13 @@ mod ends;
 mod events;
 mod finish;
 mod fit;
+mod give_way;
 mod look;
 mod open;
 mod poll;
 mod settle;
 mod submit;
 mod told;
-
-/// The last moves.
-type Moves = Bounded<MoveSeen, MOVES_KEPT>;
 
 /// The pools, the queries and the journal, with room for all that there may ever be.
 #[derive(Debug, Drop)]

@@ -1,7 +1,8 @@
 //! Sessions, and the queries of a session.
 ghost use Rattle.std.specs.Prelude.{◌≡◌, ◌<◌, ◌≤◌, ◌==◌, IfSome, position, length};
-ghost use Rattle.rm_rules.specs.State.{session_called, phase_of, with_phase, with_choice, without_session, without_runner, is_idle, is_running, is_ended, live_queries, runner_of, waiter_of};
-ghost use Rattle.rm_rules.specs.Change.{has_chosen};
+ghost use Rattle.rm_rules.specs.State.{session_called, phase_of, with_phase, with_choice, with_cap, without_session, without_runner, is_idle, is_running, is_ended, live_queries, runner_of, waiter_of};
+ghost use Rattle.rm_rules.specs.Change.{has_chosen, has_cap};
+ghost use Rattle.rm_rules.specs.Moving.{with_runner_as};
 
 use rm_base::bounded::Bounded;
 use rm_base::limits::SESSIONS_MOST;
@@ -120,6 +121,35 @@ pub fn set_choice(sessions: &mut Sessions, number: u32, pool: Name)
     }
 }
 
+/// The session has this runtime cap of its own, or has none where none is given.
+pub fn has_cap(x: &Session, cap: Option<u64>) -> bool
+    ensures { result ≡ has_cap x.now cap }
+{
+    match cap {
+        Some(cap) => match x.cap_ms {
+            Some(own) => own == cap,
+            None => false,
+        },
+        None => x.cap_ms.is_none(),
+    }
+}
+
+/// The session of this number has this runtime cap of its own, or none.
+pub fn set_cap(sessions: &mut Sessions, number: u32, cap: Option<u64>)
+    ensures { sessions.new ≡ with_cap number cap sessions.old }
+{
+    if let Some(place) = place_of_session(sessions.rows(), number) {
+        let session = sessions.rows()[place];
+        sessions.set(
+            place,
+            Session {
+                cap_ms: cap,
+                ..session
+            },
+        );
+    }
+}
+
 /// The session of this number is gone.
 pub fn remove_session(sessions: &mut Sessions, number: u32)
     ensures { sessions.new ≡ without_session number sessions.old }
@@ -154,5 +184,14 @@ pub fn remove_runner(running: &mut Runners, session: u32)
 {
     if let Some(place) = place_of_runner(running.rows(), session) {
         running.remove(place);
+    }
+}
+
+/// The session's query runs on so.
+pub fn set_runner(running: &mut Runners, session: u32, now: Runner)
+    ensures { running.new ≡ with_runner_as (λ _. now) session running.old }
+{
+    if let Some(place) = place_of_runner(running.rows(), session) {
+        running.set(place, now);
     }
 }

@@ -80,7 +80,7 @@ impl Machine {
     }
 
     /// The waiting query ends so.
-    fn end_as(&mut self, w: Waiter, end: End)
+    pub fn end_as(&mut self, w: Waiter, end: End)
         requires counts { length self.old.counters ≡ length self.old.definitions.pools }
         requires leaves { MayLeave self.old.waiting w }
         ensures { self.new ≡ ended_as end self.old w }

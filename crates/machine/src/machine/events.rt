@@ -103,6 +103,10 @@ impl Machine {
                 let x = self.session_of(seat, *session)?;
                 self.choose(&x, *pool)
             }
+            Event::SetCap { session, cap } => {
+                let x = self.session_of(seat, *session)?;
+                self.set_cap(&x, *cap)
+            }
             Event::Submit { session, floor } => {
                 let x = self.session_of(seat, *session)?;
                 self.submit(&x, *floor)
@@ -111,9 +115,21 @@ impl Machine {
                 let x = self.session_of(seat, *session)?;
                 self.poll(&x)
             }
+            Event::Check { session } => {
+                let x = self.session_of(seat, *session)?;
+                self.check(&x)
+            }
+            Event::GiveWay { session } => {
+                let x = self.session_of(seat, *session)?;
+                self.give_way(&x)
+            }
             Event::Finish { session } => {
                 let x = self.session_of(seat, *session)?;
                 self.finish(&x)
+            }
+            Event::Cancel { by, target } => {
+                let x = self.session_of(seat, *by)?;
+                self.cancel(&x, *target)
             }
             Event::Close { session } => {
                 let x = self.session_of(seat, *session)?;

@@ -4,10 +4,12 @@ ghost use Rattle.rm_base.specs.declared.limits.TheConstants.{MEMORY_MOST};
 ghost use Rattle.rm_rules.specs.Definitions.{pool_row};
 ghost use Rattle.rm_rules.specs.Accounting.{running_in};
 ghost use Rattle.rm_rules.specs.Fit.{has_place, poolfit, can_lend, judged};
+ghost use Rattle.rm_rules.specs.Moving.{allows_grant};
 ghost use Rattle.rm_rules.specs.Sound.{IsSound};
+ghost use Rattle.machine.specs.Taking.{lets_in, lends, takes_grant};
 
 use super::Machine;
-use accounts::Accounts;
+use accounts::{Accounts, IfMoved};
 use budgets::{asked, cap, threshold};
 use rm_base::definitions::Definitions;
 use rm_base::name::Name;
@@ -59,6 +61,48 @@ fn judged(definitions: &Definitions, accounts: &Accounts, pool: Name, bytes: u64
         need,
         fits,
     }
+}
+
+/// By these numbers of it, the pool lets in a query of so many bytes.
+fn lets_in(definitions: &Definitions, seen: &IfMoved, pool: Name, bytes: u64) -> bool
+    requires sound { IsSound definitions.now }
+    requires bytes { bytes ≤ 2 * MEMORY_MOST }
+    requires used { seen.now.used ≤ MEMORY_MOST }
+    ensures { result ≡ lets_in definitions.now seen.now pool bytes }
+{
+    let most = pool_row(definitions, pool).concurrency;
+    most.is_none_or(|most| seen.running < most)
+        && seen.used <= threshold(definitions, pool)
+        && seen.used + bytes <= cap(definitions, pool)
+}
+
+/// By these numbers, GENERAL lends what is needed.
+fn lends(definitions: &Definitions, seen: &IfMoved) -> bool
+    requires { IsSound definitions.now }
+    ensures { result ≡ lends definitions.now seen.now }
+{
+    seen.need == 0
+        || (seen.lent <= threshold(definitions, Name::general()) && seen.need <= seen.free)
+}
+
+/// The pool's MAXQUERYMEMORYSIZE allows the grant.
+fn allows_grant(definitions: &Definitions, pool: Name, grant: u64) -> bool
+    ensures { result ≡ allows_grant definitions.now pool grant }
+{
+    let most = pool_row(definitions, pool).query_max;
+    most.is_none_or(|most| grant <= most)
+}
+
+/// By these numbers of it, the pool takes a running query with this grant.
+pub fn takes_grant(definitions: &Definitions, seen: &IfMoved, pool: Name, grant: u64) -> bool
+    requires sound { IsSound definitions.now }
+    requires grant { grant ≤ 2 * MEMORY_MOST }
+    requires used { seen.now.used ≤ MEMORY_MOST }
+    ensures { result ≡ takes_grant definitions.now seen.now pool grant }
+{
+    lets_in(definitions, seen, pool, grant)
+        && lends(definitions, seen)
+        && allows_grant(definitions, pool, grant)
 }
 
 /// The machine knows how a query would fit now.

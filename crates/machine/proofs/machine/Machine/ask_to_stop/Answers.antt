@@ -1,0 +1,20 @@
+use Rattle.std.proofs.Common.{ap}
+use Rattle.rm_rules.specs.Holdings.{holding}
+use Rattle.rm_rules.specs.Moving.{stopping}
+use Rattle.machine.proofs.Marking.{bytes-marked, state-marked}
+use Rattle.machine.proofs.Moving.{runs-inside}
+use Rattle.machine.proofs.machine.Machine.ask_to_stop.Goals as goal
+
+pub invariant_of-self : goal.invariant_of-self
+invariant_of-self c =
+    let found = runs-inside c.self.inside c.args.self.now c.args.r.now.session c.args.r.now c.self.view_is c.requires in
+    record {
+      bytes = bytes-marked c.self.inside c.args.r.now.session c.args.r.now c.stopping.result c.set_runner.new.running c.self.invariant found (ap holding c.stopping.ensures) c.set_runner.ensures;
+      journal = c.self.invariant.journal;
+      counted = c.self.invariant.counted;
+    }
+
+pub returns : goal.returns
+returns c =
+    let found = runs-inside c.self.inside c.args.self.now c.args.r.now.session c.args.r.now c.self.view_is c.requires in
+    state-marked c.self.inside c.args.self.now stopping c.args.r.now.session c.args.r.now c.stopping.result c.set_runner.new.running c.self.view_is found c.stopping.ensures c.set_runner.ensures
