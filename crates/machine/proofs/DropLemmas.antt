@@ -17,13 +17,13 @@ use Rattle.rm_rules.specs.declared.state.Waiter.{Waiter}
 use Rattle.rm_rules.specs.Definitions.{user_pools}
 use Rattle.rm_rules.specs.State.{State, without}
 use Rattle.rm_rules.specs.Holdings.{Holdings, holdings_of, reserves_of}
-use Rattle.rm_rules.specs.Refusals.{unless_refused, pool_missing, changes_full}
+use Rattle.rm_rules.specs.Refusals.{unless_refused}
 use Rattle.rm_rules.specs.Tables.{without_row}
 use Rattle.rm_rules.specs.Acceptance.{counted, accepted}
-use Rattle.rm_rules.specs.DropPool.{pool_built_in, pool_needed, drop_pool_refusal, without_place, without_pool, session_beside, runner_beside, transferred, goes_before, is_reserve_of, folded, dropped}
+use Rattle.rm_rules.specs.DropPool.{drop_pool_refusal, without_place, without_pool, session_beside, runner_beside, transferred, goes_before, is_reserve_of, folded, dropped}
 use Rattle.rm_rules.specs.Sound.{IsSound, has_pool, are_distinct}
 use Rattle.rm_rules.specs.Healthy.{AreSized}
-use Rattle.rm_rules.proofs.Refused.{first-none, not-refused, not-missing}
+use Rattle.rm_rules.proofs.DropLaws.{drop-free}
 use Rattle.rm_rules.proofs.AcceptanceLaws.{accepted-left}
 use Rattle.rm_rules.proofs.Pools.{names, pool_names}
 use Rattle.rm_rules.proofs.Bytes.{apart-rest, sizes-of}
@@ -70,8 +70,7 @@ pub without_place-absent : {A : Type 0} (rs : List PoolRow) (pool : Name) (xs : 
 without_place-absent rs pool xs sizes absent = place-none rs pool xs sizes (position-past (λ r. same_name r.name pool) rs absent)
 
 -- a drop that is accepted is of a pool that is there and is not GENERAL, and leaves all others
-pub record IsDropped (d : Definitions) (pool : Name) (new : Definitions) : Type 0 where
-  pub known : has_pool d pool ≡ true
+pub record LeavesOthers (d : Definitions) (pool : Name) (new : Definitions) : Type 0 where
   pub user : same_name pool general ≡ false
   pub left : new.pools ≡ without_row (λ r. r.name) pool d.pools
 
@@ -79,21 +78,16 @@ drop-turn : (d : Definitions) (pool : Name) (o : Option Refusal) → drop_pool_r
 drop-turn d pool None is ok = refl
 drop-turn d pool (Some r) is ok = absurd (false≢true ok)
 
-drop-free : (d : Definitions) (pool : Name) → (let o : Option Refusal = None in drop_pool_refusal d pool ≡ o) → (has_pool d pool ≡ true) × (same_name pool general ≡ false)
-drop-free d pool h =
-    let more = pool_needed d.pools pool ∷ changes_full d ∷ [] in
-    let first = first-none (pool_missing d pool) (pool_built_in pool ∷ more) h in
-    let second = first-none (pool_built_in pool) more first.1 in
-    (not-missing (has_pool d pool) _ first.0, not-refused (same_name pool general) _ second.0)
-
 pub drop-there : (d : Definitions) (pool : Name) → IsOk (accepted d (DropPool pool)) → (has_pool d pool ≡ true) × (same_name pool general ≡ false)
-drop-there d pool ok = drop-free d pool (drop-turn d pool (drop_pool_refusal d pool) refl ok)
+drop-there d pool ok =
+    let free = drop-free d pool (drop-turn d pool (drop_pool_refusal d pool) refl ok) in
+    (free.there, same_name-sym pool general ∙ free.other)
 
-pub drop-is : (d : Definitions) (pool : Name) (new : Definitions) → accepted d (DropPool pool) ≡ Ok new → IsDropped d pool new
+pub drop-is : (d : Definitions) (pool : Name) (new : Definitions) → accepted d (DropPool pool) ≡ Ok new → LeavesOthers d pool new
 drop-is d pool new is =
     let parts = accepted-left d (DropPool pool) new is in
     let free = drop-free d pool parts.0 in
-    record { known = free.0; user = free.1; left = ap (λ (x : Definitions). x.pools) (sym parts.1) }
+    record { user = same_name-sym pool general ∙ free.other; left = ap (λ (x : Definitions). x.pools) (sym parts.1) }
 
 -- the sizes of the reserves that are left are those without the pool's
 sizes-dropped : (m : Inside) (pool : Name) → IsTied m → IsSound m.definitions → AreSized m.definitions (seen_state m).actual m.counters
@@ -141,7 +135,7 @@ state-dropped m s pool new a sessions running waiting counters same h tied sound
 
 -- its accounts are still the bytes of the state
 pub tied-dropped : (m : Inside) (pool : Name) (new : Definitions) (a : Holdings) (sessions : List Session) (running : List Runner) (waiting : List Waiter) (counters : List EndCounts)
-    → HasDropped m pool new a sessions running waiting counters → IsDropped m.definitions pool new → IsTied m → IsSound m.definitions → AreSized m.definitions (seen_state m).actual m.counters
+    → HasDropped m pool new a sessions running waiting counters → LeavesOthers m.definitions pool new → IsTied m → IsSound m.definitions → AreSized m.definitions (seen_state m).actual m.counters
     → holdings_of (seen_state (record m { definitions = new; accounts = a; sessions = sessions; running = running; waiting = waiting; counters = counters })) ≡ a
 tied-dropped m pool new a sessions running waiting counters h drops tied sound sized =
     ap holdings_of (seen-dropped m pool new a sessions running waiting counters h tied sound sized)

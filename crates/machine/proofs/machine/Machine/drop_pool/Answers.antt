@@ -1,11 +1,6 @@
-use Rattle.std.proofs.Common.{◌≡◌, true, false, ◌∙◌, ap, sym, subst, IsOk, List, length}
-use Rattle.rm_base.specs.declared.entry.EndCounts.{EndCounts}
+use Rattle.std.proofs.Common.{◌∙◌, ap, List}
 use Rattle.rm_base.specs.declared.rows.PoolRow.{PoolRow}
-use Rattle.rm_base.specs.declared.statement.Statement.TheVariants.{DropPool}
-use Rattle.rm_rules.specs.State.{State}
-use Rattle.rm_rules.specs.Acceptance.{accepted}
 use Rattle.rm_rules.specs.DropPool.{transferred, without_place}
-use Rattle.machine.specs.Inside.{seen_state}
 use Rattle.machine.proofs.Inside.{sound_inside, sized_inside, name_inside}
 use Rattle.machine.proofs.DropLemmas.{HasDropped, drop-there, drop-is, state-dropped, tied-dropped}
 use Rattle.machine.proofs.machine.Machine.drop_pool.Goals as goal
