@@ -1,9 +1,8 @@
 -- A running query that goes on in another pool, or gives way.
-use Rattle.std.proofs.Common.{◌≡◌, ◌≤◌, ◌<◌, ℕ, ◌+◌, Bool, true, false, ◌&&◌, ◌||◌, cond, eqb, leb, nat_eq, List, [], ◌∷◌, ◌++◌, Option, Some, None, length, refl, sym, ap, ◌∙◌, subst, arith, sum_by, count_by}
+use Rattle.std.proofs.Common.{◌≡◌, ◌≤◌, ◌<◌, ℕ, Bool, true, false, ◌&&◌, ◌||◌, cond, eqb, leb, nat_eq, List, [], ◌∷◌, ◌++◌, Some, None, length, refl, sym, ap, ◌∙◌, subst, arith}
 use Rattle.std.specs.List.{find, list_any}
 use Rattle.std.proofs.lemmas.Bool.Decides.{nat_tests}
 use Rattle.std.proofs.lemmas.List.Sums.{count_by-le-length}
-use Rattle.rm_base.specs.declared.definitions.Definitions.{Definitions}
 use Rattle.rm_base.specs.declared.limits.TheConstants.{SESSIONS_MOST, MEMORY_MOST}
 use Rattle.rm_base.specs.declared.name.Name.{Name}
 use Rattle.rm_base.specs.Name.{general}
@@ -14,11 +13,11 @@ use Rattle.rm_rules.specs.declared.state.Waiter.{Waiter}
 use Rattle.rm_rules.specs.Definitions.{pool_row}
 use Rattle.rm_rules.specs.Budget.{threshold}
 use Rattle.rm_rules.specs.State.{State, runner_of, without_runner, is_active}
-use Rattle.rm_rules.specs.Holdings.{Holdings, holding, holdings, holdings_of}
-use Rattle.rm_rules.specs.Accounting.{need, free, lent, granted}
+use Rattle.rm_rules.specs.Holdings.{Holdings, holding, holdings_of}
+use Rattle.rm_rules.specs.Accounting.{need, free, lent}
 use Rattle.rm_rules.specs.Fit.{poolfit}
 use Rattle.rm_rules.specs.Moving.{holdings_without, allows_grant, takes}
-use Rattle.rm_rules.specs.Healthy.{AreTimed, AreInPhase, AreNumbered, IsHealthy, began_by}
+use Rattle.rm_rules.specs.Healthy.{AreTimed, AreNumbered, IsHealthy, began_by}
 use Rattle.rm_rules.proofs.Once.{is-itself}
 use Rattle.rm_rules.proofs.Pools.{sum_by-map}
 use Rattle.rm_rules.proofs.Sizes.{sound_memory_most}
