@@ -14,6 +14,7 @@ use std::process::Abort;
 use std::test::Fail;
 
 mod borrowing;
+mod cascades;
 mod drops;
 mod faults;
 mod grantees;

@@ -6,7 +6,7 @@ use Rattle.sessions.specs.declared.answer.Answer.{Answer}
 use Rattle.sessions.specs.declared.answer.Ran.{Ran}
 use Rattle.sessions.specs.declared.answer.Ran.TheVariants as ran
 use Rattle.sessions.specs.AnswerTexts.{outcome_text, rows_text}
-use Rattle.sessions.specs.Answered.{ran_outcome, rows_in, head_text, answer_text}
+use Rattle.sessions.specs.Answered.{ran_outcome, rows_in, head_text, told_text}
 use Rattle.sessions.specs.Texts.{line_text}
 
 outcome-parts : (session : Name) (names : List (List ℕ)) (r : Ran) → head_text session names r ++ rows_text (rows_in r) ≡ outcome_text session names (ran_outcome r)
@@ -17,7 +17,7 @@ outcome-parts session names ran.NeedsSpill = append-nil _
 
 -- what stands before the rows, the rows, and the line of the release
 pub answer-parts : (a : Answer) (head rows line : List ℕ) (names : List (List ℕ)) → head ≡ head_text a.session names a.ran → rows ≡ rows_text (rows_in a.ran) → line ≡ line_text a.session (reply.Released a.released)
-    → names ≡ a.plan.names → (head ++ rows) ++ line ≡ answer_text a
+    → names ≡ a.plan.names → (head ++ rows) ++ line ≡ told_text a
 answer-parts a head rows line names is_head is_rows is_line is_names =
     ap (λ h. (h ++ rows) ++ line) (is_head ∙ ap (λ (n : List (List ℕ)). head_text a.session n a.ran) is_names)
     ∙ ap (λ r. (head_text a.session a.plan.names a.ran ++ r) ++ line) is_rows

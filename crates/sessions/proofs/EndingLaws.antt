@@ -115,7 +115,7 @@ busy-answers s seat at n x r healthy found runs =
     outcome-turn (λ o. run_of o.state seat n ≡ Some run → AnswersClose seat n o.state o.reply) s seat event c (has_due s at || c.changed)
     (λ settles h. subst (AnswersClose seat n _) (sym (ap (λ (d : Change). reply_of (settled d.state) d.answer) refuses_it)) (Runs run h))
     (λ still h. subst (AnswersClose seat n s) (sym (ap (λ (d : Change). reply_of d.state d.answer) refuses_it)) (Runs run h))
-    (runs-on s seat at seat n event run healthy tt (run-found s seat n x r found runs) (λ e. cc))
+    (runs-on s seat at seat n event run healthy tt (run-found s seat n x r found runs) (λ e. cc) (λ e. cc))
 
 rests-turn : (s : State) (n : ℕ) (x : Session) (b : Bool) → AreInPhase s.sessions s.waiting s.running → session_called s.sessions n ≡ Some x → (let o : Option Runner = None in runner_of s.running n ≡ o)
     → is_running x.phase ≡ b → b ≡ false

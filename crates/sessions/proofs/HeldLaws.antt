@@ -7,7 +7,7 @@ use Rattle.std.proofs.lemmas.Bool.{false≢true}
 use Rattle.std.proofs.lemmas.List.{get_or-map, set_split, take-append-drop, take-map, drop-map, map-append, length-map}
 use Rattle.rm_base.specs.declared.entry.Answered.{Answered}
 use Rattle.rm_base.specs.declared.event.Event.{Event}
-use Rattle.rm_base.specs.declared.event.Event.TheVariants.{Finish, Close}
+use Rattle.rm_base.specs.declared.event.Event.TheVariants.{Define, Open, SetPool, SetCap, Submit, Poll, Check, GiveWay, Finish, Cancel, Close}
 use Rattle.rm_base.specs.declared.name.Name.{Name}
 use Rattle.rm_base.specs.Name.{same_name}
 use Rattle.rm_base.proofs.Names.{same_name-eq}
@@ -17,42 +17,60 @@ use Rattle.rm_rules.proofs.Taken.{found_passes}
 use Rattle.sessions.specs.declared.held.Held.{Held}
 use Rattle.sessions.specs.Held.{named_session, held_names, IsHeld, AreApart, AreHeld}
 use Rattle.sessions.specs.Host.{Known, Called}
-use Rattle.sessions.specs.Running.{ends_nothing}
+use Rattle.sessions.specs.Running.{keeps_sessions}
 use Rattle.sessions.specs.Session.{SeesOpen}
 use Rattle.sessions.specs.SessionNames.{NamedSession, place_named, session_named, without_name}
-use Rattle.sessions.proofs.SessionLaws.{open-called, running-called}
+use Rattle.sessions.proofs.LeavingLaws.{steered}
+use Rattle.sessions.proofs.SessionLaws.{open-called, running-called, leaving-called}
 
 -- a held session goes on where a call ends neither it nor its query
 pub held-goes_on : (old new : Known) (at : ℕ) (event : Event) (answered : Answered) (h : Held) → Called old new at event answered → IsFormed event
-    → event ≢ Finish h.session.number → event ≢ Close h.session.number → IsHeld old h → IsHeld new h
-held-goes_on old new at event answered h called formed unfinished unclosed is = record {
+    → steered event ≢ Some h.session.number → event ≢ Close h.session.number → IsHeld old h → IsHeld new h
+held-goes_on old new at event answered h called formed spared unclosed is = record {
   opened = open-called old new at h.session.number event answered called formed unclosed is.opened;
   told = is.told;
-  own = λ g there. let own = is.own g there in (own.0, running-called old new at g event answered called formed (λ same. unfinished (same ∙ ap Finish own.0)) own.1);
+  own = λ g there. let own = is.own g there in (own.0, running-called old new at g event answered called formed (λ same. spared (ap steered same ∙ ap (λ n. Some n) own.0)) (λ same. spared (ap steered same ∙ ap (λ n. Some n) own.0)) own.1);
+  leaves = is.leaves ∙ sym (leaving-called old new at h.session.number event answered called spared is.opened);
 }
 
-unended-finish : (event : Event) (n : ℕ) → ends_nothing event ≡ true → event ≢ Finish n
-unended-finish event n goes same = false≢true (sym (ap ends_nothing same) ∙ goes)
+unsteered : (event : Event) (n : ℕ) → keeps_sessions event ≡ true → steered event ≢ Some n
+unsteered (Define statement) n goes is = cc
+unsteered (Open user) n goes is = cc
+unsteered (SetPool session pool) n goes is = cc
+unsteered (SetCap session cap) n goes is = cc
+unsteered (Submit session floor) n goes is = cc
+unsteered (Poll session) n goes is = cc
+unsteered (Check session) n goes is = false≢true goes
+unsteered (GiveWay session) n goes is = false≢true goes
+unsteered (Finish session) n goes is = false≢true goes
+unsteered (Cancel by target) n goes is = cc
+unsteered (Close session) n goes is = false≢true goes
 
-unended-close : (event : Event) (n : ℕ) → ends_nothing event ≡ true → event ≢ Close n
-unended-close event n goes same = false≢true (sym (ap ends_nothing same) ∙ goes)
+unended-close : (event : Event) (n : ℕ) → keeps_sessions event ≡ true → event ≢ Close n
+unended-close event n goes same = false≢true (sym (ap keeps_sessions same) ∙ goes)
 
 -- so all of them do where it ends nothing
-pub all-go_on : (old new : Known) (at : ℕ) (event : Event) (answered : Answered) (hs : List Held) → Called old new at event answered → IsFormed event → ends_nothing event ≡ true
+pub all-go_on : (old new : Known) (at : ℕ) (event : Event) (answered : Answered) (hs : List Held) → Called old new at event answered → IsFormed event → keeps_sessions event ≡ true
     → AreHeld old hs → AreHeld new hs
 all-go_on old new at event answered [] called formed goes are = tt
 all-go_on old new at event answered (h ∷ hs) called formed goes are = (
-  held-goes_on old new at event answered h called formed (unended-finish event h.session.number goes) (unended-close event h.session.number goes) are.0,
+  held-goes_on old new at event answered h called formed (unsteered event h.session.number goes) (unended-close event h.session.number goes) are.0,
   are.1,
   all-go_on old new at event answered hs called formed goes are.2,
 )
 
--- an event for one session ends no other
+-- an event for one session ends and steers no other
 abbrev EndsAtMost : ℕ → Event → Type 0
-EndsAtMost n event = (m : ℕ) → m ≢ n → (event ≢ Finish m) × (event ≢ Close m)
+EndsAtMost n event = (m : ℕ) → m ≢ n → (steered event ≢ Some m) × (event ≢ Close m)
 
-pub unending : (n : ℕ) (event : Event) → ends_nothing event ≡ true → EndsAtMost n event
-unending n event goes m differs = (unended-finish event m goes, unended-close event m goes)
+pub unending : (n : ℕ) (event : Event) → keeps_sessions event ≡ true → EndsAtMost n event
+unending n event goes m differs = (unsteered event m goes, unended-close event m goes)
+
+pub check-ends : (n : ℕ) → EndsAtMost n (Check n)
+check-ends n m differs = (λ same. let e : n ≡ m = cc in differs (sym e), λ same. cc)
+
+pub way-ends : (n : ℕ) → EndsAtMost n (GiveWay n)
+way-ends n m differs = (λ same. let e : n ≡ m = cc in differs (sym e), λ same. cc)
 
 pub finish-ends : (n : ℕ) → EndsAtMost n (Finish n)
 finish-ends n m differs = (λ same. let e : n ≡ m = cc in differs (sym e), λ same. cc)

@@ -21,4 +21,6 @@ pub mod HostLaws
 pub mod OpenLaws
 pub mod ToldLaws
 pub mod EndingLaws
+mod LeavingLaws
+mod WayLaws
 pub mod SessionLaws

@@ -6,21 +6,22 @@ use Rattle.std.proofs.lemmas.Bool.{eqb-true, eq-eqb, false≢true}
 use Rattle.rm_base.specs.declared.event.Event.{Event}
 use Rattle.rm_base.specs.declared.event.Event.TheVariants.{Close}
 use Rattle.rm_base.specs.declared.name.Name.{Name}
+use Rattle.rm_base.specs.declared.reply.End.TheVariants as end
 use Rattle.rm_rules.specs.declared.state.Phase.{Phase}
 use Rattle.rm_rules.specs.declared.state.Phase.TheVariants as phase
 use Rattle.rm_rules.specs.declared.state.Session.{Session}
-use Rattle.rm_rules.specs.State.{State, session_called, session_of, if_opened_by, phase_of, with_phase, with_choice, is_ended}
+use Rattle.rm_rules.specs.State.{State, session_called, session_of, if_opened_by, phase_of, with_phase, with_choice, with_cap, changed_first, is_ended}
 use Rattle.rm_rules.specs.Settle.{settled}
-use Rattle.rm_rules.specs.Change.{Change}
+use Rattle.rm_rules.specs.Change.{Change, within_moments}
 use Rattle.rm_rules.specs.Answers.{answered}
 use Rattle.rm_rules.specs.Step.{entered, moved_to, has_due, found_at, attempted, step}
 use Rattle.rm_rules.specs.Replay.{IsFormed}
 use Rattle.rm_rules.specs.Sessions.{session_in, IsForeign}
 use Rattle.rm_rules.specs.Healthy.{IsHealthy}
 use Rattle.rm_rules.proofs.Changed.{found-changed, other-changed}
-use Rattle.rm_rules.proofs.Phases.{has_number, phased, choosing_pool, differ, called-with_same, called-with_other}
+use Rattle.rm_rules.proofs.Phases.{has_number, phased, differ, called-with_same, called-with_other}
 use Rattle.rm_rules.proofs.Settling.{due-keeps, settled-keeps}
-use Rattle.rm_rules.proofs.Changing.{IsTried, stays, changes, refuses, repeats, tells, defines, opens, chooses, submits, collects, finishes, closes, session_of-is, tried-is}
+use Rattle.rm_rules.proofs.Changing.{IsTried, stays, changes, refuses, repeats, caps_again, judges, stops_again, tells, defines, opens, chooses, caps, submits, collects, moves_on, asks, gives_way, finishes, withdraws, stops, closes, session_of-is, tried-is}
 use Rattle.rm_rules.proofs.Foreign.{foreign-step}
 use Rattle.rm_rules.proofs.Stepping.{outcome-turn}
 use Rattle.rm_rules.proofs.Laws.{IsKeptByOthers}
@@ -57,14 +58,25 @@ with-turn n seat m p xs false apart (x, called, of_seat) = (x, called-with_other
 there-with : (n seat m : ℕ) (p : Phase) (xs : List Session) → IsThere n seat xs → IsThere n seat (with_phase m p xs)
 there-with n seat m p xs h = with-turn n seat m p xs (eqb m n) refl h
 
-choice-turn : (n seat m : ℕ) (pool : Name) (xs : List Session) (b : Bool) → eqb m n ≡ b → IsThere n seat xs → IsThere n seat (with_choice m pool xs)
-choice-turn n seat m pool xs true same (x, called, of_seat) = (
-  choosing_pool pool x,
-  ap (λ k. session_called (with_choice k pool xs) n) (eqb-true m n same) ∙ found-changed (has_number n) (choosing_pool pool) xs (λ y. refl) ∙ ap (option_map (choosing_pool pool)) called,
-  of_seat,
+-- what changes neither number nor seat of a session
+record Keeps (act : Session → Session) : Type 0 where
+  number : (y : Session) → (act y).number ≡ y.number
+  of_seat : (y : Session) → (act y).seat ≡ y.seat
+
+changed-turn : (act : Session → Session) → Keeps act → (n seat m : ℕ) (xs : List Session) (b : Bool) → eqb m n ≡ b → IsThere n seat xs → IsThere n seat (changed_first (has_number m) act xs)
+changed-turn act keeps n seat m xs true same (x, called, of_seat) = (
+  act x,
+  ap (λ k. session_called (changed_first (has_number k) act xs) n) (eqb-true m n same) ∙ found-changed (has_number n) act xs (λ y. ap (λ k. eqb k n) (keeps.number y)) ∙ ap (option_map act) called,
+  keeps.of_seat x ∙ of_seat,
 )
-choice-turn n seat m pool xs false apart (x, called, of_seat) =
-    (x, other-changed (has_number m) (has_number n) (choosing_pool pool) xs (λ y is. differ y.number m n apart is) (λ y. refl) ∙ called, of_seat)
+changed-turn act keeps n seat m xs false apart (x, called, of_seat) =
+    (x, other-changed (has_number m) (has_number n) act xs (λ y is. differ y.number m n apart is) (λ y. ap (λ k. eqb k n) (keeps.number y)) ∙ called, of_seat)
+
+there-choice : (n seat m : ℕ) (pool : Name) (xs : List Session) → IsThere n seat xs → IsThere n seat (with_choice m pool xs)
+there-choice n seat m pool xs h = changed-turn (λ x. record x { pool = Some pool }) (record { number = λ y. refl; of_seat = λ y. refl }) n seat m xs (eqb m n) refl h
+
+there-cap : (n seat m : ℕ) (cap : Option ℕ) (xs : List Session) → IsThere n seat xs → IsThere n seat (with_cap m cap xs)
+there-cap n seat m cap xs h = changed-turn (λ x. record x { cap_ms = cap }) (record { number = λ y. refl; of_seat = λ y. refl }) n seat m xs (eqb m n) refl h
 
 -- so deadlines, settling and what is answered leave it there
 pub there-found : (n seat : ℕ) (s : State) (at : ℕ) → IsThere n seat s.sessions → IsThere n seat (found_at s at).sessions
@@ -84,11 +96,24 @@ tried-there : (s : State) (seat : ℕ) (event : Event) (c : Change) (n : ℕ) �
     → IsThere n seat (answered (settled c.state) c.answer).sessions
 tried-there s seat _ _ n (stays _ (refuses event r is)) of other h = there-settled n seat s h
 tried-there s seat _ _ n (stays _ (repeats m pool x found same)) of other h = there-settled n seat s h
+tried-there s seat _ _ n (stays _ (caps_again m cap x found same)) of other h = there-settled n seat s h
+tried-there s seat _ _ n (stays _ (judges m x r answer is says)) of other h = there-settled n seat s h
+tried-there s seat _ _ n (stays _ (stops_again by target x y r may runs already)) of other h = there-settled n seat s h
 tried-there s seat _ _ n (stays _ (tells m x found active)) of other h = there-settled n seat s h
 tried-there s seat _ _ n (changes _ (defines statement new accepts) loud) of other h = absurd (cc)
 tried-there s seat _ _ n (changes _ (opens user may) loud) of other h = absurd (cc)
 tried-there s seat _ c n (changes _ (chooses m pool x found may differs) loud) of other h =
-    there-settled n seat c.state (choice-turn n seat x.number pool s.sessions (eqb x.number n) refl h)
+    there-settled n seat c.state (there-choice n seat x.number pool s.sessions h)
+tried-there s seat _ c n (changes _ (caps m cap x found room differs) loud) of other h =
+    there-settled n seat c.state (there-cap n seat x.number (within_moments cap) s.sessions h)
+tried-there s seat _ c n (changes _ (moves_on m x r pool is taken) loud) of other h = there-settled n seat c.state h
+tried-there s seat _ c n (changes _ (asks m x r pool is) loud) of other h = there-settled n seat c.state h
+tried-there s seat _ c n (changes _ (gives_way m x r pool found runs leaves) loud) of other h =
+    let u = settled c.state in
+    end-turn n seat r.session u.sessions (is_ended (phase_of u.sessions r.session)) (there-settled n seat c.state (there-with n seat r.session phase.Waiting s.sessions h))
+tried-there s seat _ c n (changes _ (withdraws by target x y w may waits) loud) of other h =
+    there-settled n seat c.state (there-with n seat w.session (phase.Ended end.Cancelled) s.sessions h)
+tried-there s seat _ c n (changes _ (stops by target x y r may runs first) loud) of other h = there-settled n seat c.state h
 tried-there s seat _ c n (changes _ (submits m floor x found may) loud) of other h =
     let u = settled c.state in
     end-turn n seat x.number u.sessions (is_ended (phase_of u.sessions x.number)) (there-settled n seat c.state (there-with n seat x.number phase.Waiting s.sessions h))

@@ -1,6 +1,8 @@
 -- Plans that are kept can be run over the script's tables.
 use Rattle.std.proofs.Common.{◌≡◌, ℕ, eqb, true, false, cond, List, [], ◌∷◌, ◌++◌, Option, Some, None, Result, Ok, Err, find, refl, sym, ap, ◌∙◌, subst}
-use Rattle.std.specs.Prelude.{option_map, IfSome, OnOk, OnErr}
+use Rattle.std.specs.Prelude.{option_map, ◌||◌, IfSome, OnOk, OnErr}
+use Rattle.std.specs.List.{list_any}
+use Rattle.std.specs.Option.{is_some}
 use Rattle.rm_base.specs.declared.catalog.CatalogTable.{CatalogTable}
 use Rattle.rm_base.specs.declared.name.Name.{Name}
 use Rattle.rm_base.specs.declared.select.Select.{Select}
@@ -84,3 +86,13 @@ pub run-added : {E : Type 0} (tables more now : List NamedTable) (plans : List K
     → AreRunnable now plans
 run-added tables more now plans (Ok done) ok err h = subst (λ (ts : List NamedTable). AreRunnable ts plans) (sym ok) (all-run-still tables more plans h)
 run-added tables more now plans (Err e) ok err h = subst (λ (ts : List NamedTable). AreRunnable ts plans) (sym err) h
+
+-- whether a plan is kept for a session
+pub has-plan : (session : ℕ) (plans : List KeptPlan) → list_any (λ (k : KeptPlan). eqb k.session session) plans ≡ is_some (plan_of plans session)
+has-plan session [] = refl
+has-plan session (k ∷ ks) =
+    elim (eqb k.session session) as (λ b. (b || list_any (λ (p : KeptPlan). eqb p.session session) ks)
+    ≡ is_some (option_map (λ (p : KeptPlan). p.plan) (cond b (Some k) (find (λ (p : KeptPlan). eqb p.session session) ks)))) [
+      | true ↦ refl
+      | false ↦ has-plan session ks
+    ]

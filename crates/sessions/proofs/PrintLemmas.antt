@@ -7,7 +7,7 @@ use Rattle.rm_base.specs.declared.select.Select.{Select}
 use Rattle.csv_tables.specs.declared.tables.NamedTable.{NamedTable}
 use Rattle.sessions.specs.Held.{unnumbered, PrintsAs}
 use Rattle.sessions.specs.Texts.{line_text, queued_text}
-use Rattle.sessions.specs.Turns.{ScriptState, after_submit, after_poll, after_finish, done_text}
+use Rattle.sessions.specs.Turns.{ScriptState, Turn, Goes, after_submit, after_poll, after_finish, done_text, checked_turn}
 
 -- what does not see the number
 same-shown : {X : Type 0} (f : Reply → X) → ((r : Reply) → f (unnumbered r) ≡ f r) → (a b : Reply) → PrintsAs a b → f a ≡ f b
@@ -61,3 +61,11 @@ done-blind tables session (Some plan) _ = refl
 
 pub done-shown : (tables : List NamedTable) (session : Name) (plan : Option Select) (a b : Reply) → PrintsAs a b → done_text tables session plan a ≡ done_text tables session plan b
 done-shown tables session plan = same-shown (done_text tables session plan) (done-blind tables session plan)
+
+checked-blind : (s : ScriptState) (session : Name) (number : ℕ) (r : Reply) → checked_turn s session number (unnumbered r) ≡ checked_turn s session number r
+checked-blind s session number (reply.Admitted query pool grant own borrowed) = ap (λ (text : List ℕ). Goes text s) (line-blind session (reply.Admitted query pool grant own borrowed))
+checked-blind s session number (reply.Waiting query place) = ap (λ (text : List ℕ). Goes text s) (line-blind session (reply.Waiting query place))
+checked-blind s session number _ = refl
+
+pub checked-shown : (s : ScriptState) (session : Name) (number : ℕ) (a b : Reply) → PrintsAs a b → checked_turn s session number a ≡ checked_turn s session number b
+checked-shown s session number = same-shown (checked_turn s session number) (checked-blind s session number)

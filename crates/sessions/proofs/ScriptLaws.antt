@@ -29,17 +29,19 @@ use Rattle.rm_base.specs.Definitions.{fresh}
 use Rattle.rm_base.specs.WellFormed.{IsWellFormed}
 use Rattle.rm_outside.specs.Stored.{StoredRows}
 use Rattle.rm_rules.specs.State.{State}
-use Rattle.rm_rules.specs.Acceptance.{accepted, is_judged}
+use Rattle.rm_rules.specs.Acceptance.{accepted}
 use Rattle.rm_rules.specs.Step.{step}
 use Rattle.rm_rules.specs.Replay.{replay, IsFormed, IsLegal}
 use Rattle.rm_rules.proofs.Laws.{legal-step, replay-step, conserved-after-each, fresh-sound, healthy-start}
 use Rattle.rm_rules.proofs.Histories.{bytes-from}
 use Rattle.sessions.specs.declared.options.Options.{Options}
-use Rattle.sessions.specs.Commands.{Request, SetPool, Ask, Poll, Done, Close, Command, At, Sql, Open, Query, Load, Of, command_of}
+use Rattle.sessions.specs.Commands.{Request, SetPool, SetCap, Ask, Poll, Check, Way, Done, Cancel, Close, Command, At, Sql, Open, Query, Load, Of, command_of}
 use Rattle.sessions.specs.Options.{options_of}
 use Rattle.sessions.specs.Script.{Files, command_turn, line_turn, is_comment, ScriptEnd, turn_end, lines_end, no_script, script_start, first_state, script_with, script, IsOneHistory}
-use Rattle.sessions.specs.Turns.{ScriptState, Turn, Bad, Goes, Stops, judged_turn, read_turn, chosen_turn, after_open, opened_turn, opening_turn, after_close, close_turn, after_submit, query_turn, query_for, after_poll, poll_turn, after_finish, done_turn, loaded_turn, file_turn, has_no_place, table_turn, request_turn, session_turn, turn}
+use Rattle.sessions.specs.Turns.{ScriptState, Turn, Bad, Goes, Stops, judged_turn, read_turn, chosen_turn, after_open, opened_turn, opening_turn, after_close, close_turn, after_submit, query_turn, query_for, after_poll, poll_turn, way_turn, after_finish, finish_turn, end_turn, told_first, checked_turn, done_turn, cancel_turn, loaded_turn, file_turn, has_no_place, table_turn, request_turn, session_turn, turn}
+use Rattle.sessions.specs.Plans.{plan_of}
 use Rattle.sessions.specs.SessionNames.{session_named}
+use Rattle.sessions.specs.Texts.{line_text}
 use Rattle.sessions.proofs.OptionsLaws.{options-within}
 
 -- a fact of the machine that a turn leaves, where it leaves one
@@ -63,15 +65,10 @@ judged : (P : State → Type 0) → IsKeptByCalls P → (s : ScriptState) (state
 judged P each s statement formed (Err refusal) h = h
 judged P each s statement formed (Ok d) h = each s.machine s.moment (event.Define statement) formed h
 
-states : (P : State → Type 0) → IsKeptByCalls P → (s : ScriptState) (statement : Statement) → IsWellFormed statement → (b : Bool) → is_judged statement ≡ b
-    → P s.machine → OnTurn P (cond b (judged_turn s statement (accepted s.machine.definitions statement)) Bad)
-states P each s statement ranged true is h = judged P each s statement (is, ranged) (accepted s.machine.definitions statement) h
-states P each s statement ranged false is h = tt
-
 reads : (P : State → Type 0) → IsKeptByCalls P → (s : ScriptState) (r : Result Statement Refusal) → ((statement : Statement) → r ≡ Ok statement → IsWellFormed statement)
     → P s.machine → OnTurn P (read_turn s r)
 reads P each s (Err refusal) ranged h = h
-reads P each s (Ok statement) ranged h = states P each s statement (ranged statement refl) (is_judged statement) refl h
+reads P each s (Ok statement) ranged h = judged P each s statement (ranged statement refl) (accepted s.machine.definitions statement) h
 
 chooses : (P : State → Type 0) → IsKeptByCalls P → (s : ScriptState) (session : Name) (number : ℕ) (pool : Option Name) → P s.machine → OnTurn P (chosen_turn s session number pool)
 chooses P each s session number None h = h
@@ -125,14 +122,49 @@ polls P each s session number h =
     let o = step s.machine 0 s.moment (event.Poll number) in
     subst P (sym (after_poll-machine (record s { machine = o.state }) number o.reply)) (each s.machine s.moment (event.Poll number) tt h)
 
+ways : (P : State → Type 0) → IsKeptByCalls P → (s : ScriptState) (session : Name) (number : ℕ) → P s.machine → OnTurn P (way_turn s session number)
+ways P each s session number h =
+    let o = step s.machine 0 s.moment (event.GiveWay number) in
+    subst P (sym (after_poll-machine (record s { machine = o.state }) number o.reply)) (each s.machine s.moment (event.GiveWay number) tt h)
+
 after_finish-machine : (s : ScriptState) (number : ℕ) (r : Reply) → (after_finish s number r).machine ≡ s.machine
 after_finish-machine s number (reply.Released grant) = refl
 after_finish-machine s number _ = refl
 
-finishes : (P : State → Type 0) → IsKeptByCalls P → (s : ScriptState) (session : Name) (number : ℕ) → P s.machine → OnTurn P (done_turn s session number)
+finishes : (P : State → Type 0) → IsKeptByCalls P → (s : ScriptState) (session : Name) (number : ℕ) → P s.machine → OnTurn P (finish_turn s session number)
 finishes P each s session number h =
     let o = step s.machine 0 s.moment (event.Finish number) in
     subst P (sym (after_finish-machine (record s { machine = o.state }) number o.reply)) (each s.machine s.moment (event.Finish number) tt h)
+
+ends : (P : State → Type 0) → IsKeptByCalls P → (s : ScriptState) (session : Name) (number : ℕ) → P s.machine → OnTurn P (end_turn s session number)
+ends P each s session number h =
+    let o = step s.machine 0 s.moment (event.Finish number) in
+    subst P (sym (after_finish-machine (record s { machine = o.state }) number o.reply)) (each s.machine s.moment (event.Finish number) tt h)
+
+first_told : (P : State → Type 0) (first : List ℕ) (t : Turn) → OnTurn P t → OnTurn P (told_first first t)
+first_told P first Bad h = tt
+first_told P first (Goes text s) h = h
+first_told P first (Stops text status s) h = h
+
+checked : (P : State → Type 0) → IsKeptByCalls P → (s : ScriptState) (session : Name) (number : ℕ) (r : Reply) → P s.machine → OnTurn P (checked_turn s session number r)
+checked P each s session number reply.Go h = finishes P each s session number h
+checked P each s session number (reply.MovedOn pool) h =
+    first_told P (line_text session (reply.MovedOn pool)) (finish_turn s session number) (finishes P each s session number h)
+checked P each s session number (reply.GiveWay pool) h = first_told P (line_text session (reply.GiveWay pool)) (way_turn s session number) (ways P each s session number h)
+checked P each s session number (reply.CapEnded which ran cap) h =
+    first_told P (line_text session (reply.CapEnded which ran cap)) (end_turn s session number) (ends P each s session number h)
+checked P each s session number reply.Stopping h = first_told P (line_text session reply.Stopping) (end_turn s session number) (ends P each s session number h)
+checked P each s session number _ h = h
+
+dones : (P : State → Type 0) → IsKeptByCalls P → (s : ScriptState) (session : Name) (number : ℕ) (plan : Option Select) → P s.machine → OnTurn P (done_turn s session number plan)
+dones P each s session number None h = finishes P each s session number h
+dones P each s session number (Some plan) h =
+    let o = step s.machine 0 s.moment (event.Check number) in
+    checked P each (record s { machine = o.state }) session number o.reply (each s.machine s.moment (event.Check number) tt h)
+
+cancels : (P : State → Type 0) → IsKeptByCalls P → (s : ScriptState) (session : Name) (number : ℕ) (target : Option ℕ) → P s.machine → OnTurn P (cancel_turn s session number target)
+cancels P each s session number None h = tt
+cancels P each s session number (Some target) h = each s.machine s.moment (event.Cancel number target) tt h
 
 loads : (P : State → Type 0) (s : ScriptState) (name : Name) (r : Result TableSeen LoadError) → P s.machine → OnTurn P (loaded_turn s name r)
 loads P s name (Err fault) h = h
@@ -148,9 +180,13 @@ of_file P s name (Some bytes) h =
 
 requests : (P : State → Type 0) → IsKeptByCalls P → (s : ScriptState) (session : Name) (number : ℕ) (r : Request) → P s.machine → OnTurn P (request_turn s session number r)
 requests P each s session number (SetPool pool) h = each s.machine s.moment (event.SetPool number pool) tt h
+requests P each s session number (SetCap cap) h = each s.machine s.moment (event.SetCap number cap) tt h
 requests P each s session number (Ask floor) h = each s.machine s.moment (event.Submit number floor) tt h
 requests P each s session number Poll h = polls P each s session number h
-requests P each s session number Done h = finishes P each s session number h
+requests P each s session number Check h = each s.machine s.moment (event.Check number) tt h
+requests P each s session number Way h = ways P each s session number h
+requests P each s session number Done h = dones P each s session number (plan_of s.plans number) h
+requests P each s session number (Cancel target) h = cancels P each s session number (session_named s.names target) h
 requests P each s session number Close h = closes P each s session number h
 
 for_session : (P : State → Type 0) → IsKeptByCalls P → (s : ScriptState) (session : Name) (r : Request) (o : Option ℕ) → P s.machine → OnTurn P (session_turn s session r o)

@@ -6,7 +6,7 @@ use Rattle.rm_base.specs.declared.definitions.Definitions.{Definitions}
 use Rattle.rm_base.specs.declared.event.Event.TheVariants as event
 use Rattle.rm_base.specs.declared.refusal.Refusal.{Refusal}
 use Rattle.rm_base.specs.declared.statement.Statement.{Statement}
-use Rattle.rm_rules.specs.Acceptance.{accepted, is_judged}
+use Rattle.rm_rules.specs.Acceptance.{accepted}
 use Rattle.sessions.specs.Turns.{ScriptState, Bad, called, judged_turn, statement_turn}
 use Rattle.sessions.specs.Texts.{bare_text}
 
@@ -14,8 +14,6 @@ judged-ok : (s : ScriptState) (statement : Statement) (r : Result Definitions Re
 judged-ok s statement (Ok d) ok = refl
 judged-ok s statement (Err refusal) ok = absurd (false≢true ok)
 
-pub statement-ok : (s : ScriptState) (statement : Statement) → is_judged statement ≡ true → IsOk (accepted s.machine.definitions statement)
+pub statement-ok : (s : ScriptState) (statement : Statement) → IsOk (accepted s.machine.definitions statement)
     → statement_turn s statement ≡ called s (event.Define statement) bare_text
-statement-ok s statement is ok =
-    let r = accepted s.machine.definitions statement in
-    ap (λ b. cond b (judged_turn s statement r) Bad) is ∙ judged-ok s statement r ok
+statement-ok s statement ok = judged-ok s statement (accepted s.machine.definitions statement) ok

@@ -2,7 +2,7 @@
 use Rattle.std.proofs.Common.{◌≡◌, ℕ, Bool, true, false, ◌||◌, Option, Some, None, Result, Ok, Err, refl, sym, ap, ◌∙◌, subst}
 use Rattle.std.proofs.lemmas.Bool.{false≢true}
 use Rattle.rm_base.specs.declared.event.Event.{Event}
-use Rattle.rm_base.specs.declared.event.Event.TheVariants.{Define, Open, SetPool, Submit, Poll, Finish, Close}
+use Rattle.rm_base.specs.declared.event.Event.TheVariants.{Define, Open, SetPool, SetCap, Submit, Poll, Check, GiveWay, Finish, Cancel, Close}
 use Rattle.rm_base.specs.declared.name.Name.{Name}
 use Rattle.rm_base.specs.declared.refusal.Refusal.{Refusal}
 use Rattle.rm_base.specs.declared.refusal.Refusal.TheVariants as refusal
@@ -23,7 +23,7 @@ use Rattle.rm_rules.specs.Step.{entered, has_due, found_at, attempted, step}
 use Rattle.rm_rules.specs.Grants.{Run, run_of, run_by}
 use Rattle.rm_rules.specs.Healthy.{AreInPhase, IsHealthy}
 use Rattle.rm_rules.proofs.Grants.{less-found}
-use Rattle.rm_rules.proofs.Changing.{IsTried, stays, changes, refuses, repeats, tells, defines, opens, chooses, submits, collects, finishes, closes, session_of-is, tried-is}
+use Rattle.rm_rules.proofs.Changing.{IsTried, stays, changes, refuses, repeats, caps_again, judges, stops_again, tells, defines, opens, chooses, caps, submits, collects, moves_on, asks, gives_way, finishes, withdraws, stops, closes, session_of-is, tried-is}
 use Rattle.rm_rules.proofs.Stepping.{found-facts, outcome-turn}
 use Rattle.rm_rules.proofs.Laws.{healthy-step}
 use Rattle.rm_rules.proofs.Runs.{run-is, run-found, runs-open, owned-opened, owned-found_at, runs-on}
@@ -52,29 +52,42 @@ session-tells s n None = Refuses refusal.NoSuchSession
 session-tells s n (Some x) = phase-tells s n x.phase
 
 -- whether an event asks for a query
-abbrev pub asks : Event → Bool
-asks (Define statement) = false
-asks (Open user) = false
-asks (SetPool session pool) = false
-asks (Submit session floor) = true
-asks (Poll session) = true
-asks (Finish session) = false
-asks (Close session) = false
+abbrev pub is_asking : Event → Bool
+is_asking (Define statement) = false
+is_asking (Open user) = false
+is_asking (SetPool session pool) = false
+is_asking (SetCap session cap) = false
+is_asking (Submit session floor) = true
+is_asking (Poll session) = true
+is_asking (Check session) = false
+is_asking (GiveWay session) = true
+is_asking (Finish session) = false
+is_asking (Cancel by target) = false
+is_asking (Close session) = false
 
-tried-tells : (s u : State) (seat : ℕ) (event : Event) (c : Change) → IsTried s seat event c → asks event ≡ true → TellsQuery (reply_of u c.answer)
+tried-tells : (s u : State) (seat : ℕ) (event : Event) (c : Change) → IsTried s seat event c → is_asking event ≡ true → TellsQuery (reply_of u c.answer)
 tried-tells s u seat _ _ (stays _ (refuses event r is)) for = Refuses r
 tried-tells s u seat _ _ (stays _ (repeats n pool x found same)) for = absurd (false≢true for)
+tried-tells s u seat _ _ (stays _ (caps_again n cap x found same)) for = absurd (false≢true for)
+tried-tells s u seat _ _ (stays _ (judges n x r answer is says)) for = absurd (false≢true for)
+tried-tells s u seat _ _ (stays _ (stops_again by target x y r may runs already)) for = absurd (false≢true for)
 tried-tells s u seat _ _ (stays _ (tells n x found active)) for = session-tells u x.number (session_called u.sessions x.number)
 tried-tells s u seat _ _ (changes _ (defines statement new accepts) loud) for = absurd (false≢true for)
 tried-tells s u seat _ _ (changes _ (opens user may) loud) for = absurd (false≢true for)
 tried-tells s u seat _ _ (changes _ (chooses n pool x found may differs) loud) for = absurd (false≢true for)
+tried-tells s u seat _ _ (changes _ (caps n cap x found room differs) loud) for = absurd (false≢true for)
+tried-tells s u seat _ _ (changes _ (moves_on n x r pool is taken) loud) for = absurd (false≢true for)
+tried-tells s u seat _ _ (changes _ (asks n x r pool is) loud) for = absurd (false≢true for)
+tried-tells s u seat _ _ (changes _ (gives_way n x r pool found runs leaves) loud) for = session-tells u r.session (session_called u.sessions r.session)
+tried-tells s u seat _ _ (changes _ (withdraws by target x y w may waits) loud) for = absurd (false≢true for)
+tried-tells s u seat _ _ (changes _ (stops by target x y r may runs first) loud) for = absurd (false≢true for)
 tried-tells s u seat _ _ (changes _ (submits n floor x found may) loud) for = session-tells u x.number (session_called u.sessions x.number)
 tried-tells s u seat _ _ (changes _ (collects n x end found ended) loud) for = Ends end
 tried-tells s u seat _ _ (changes _ (finishes n x found runs) loud) for = absurd (false≢true for)
 tried-tells s u seat _ _ (changes _ (closes n x found rests) loud) for = absurd (false≢true for)
 
--- so the reply to Submit and to Poll tells of a query
-pub asking-tells : (s : State) (seat at : ℕ) (event : Event) → asks event ≡ true → TellsQuery (step s seat at event).reply
+-- so the reply to Submit, to Poll and to GiveWay tells of a query
+pub asking-tells : (s : State) (seat at : ℕ) (event : Event) → is_asking event ≡ true → TellsQuery (step s seat at event).reply
 asking-tells s seat at event for =
     let t = found_at s at in
     let c = attempted t seat event in
@@ -90,7 +103,7 @@ pub record IsGiven (run : Run) (r : Reply) : Type 0 where
   pub borrowed : ℕ
   pub is : r ≡ reply.Admitted run.query pool run.grant own borrowed
 
-running-phase : (p : Phase) → is_running p ≡ true → p ≡ phase.Running
+pub running-phase : (p : Phase) → is_running p ≡ true → p ≡ phase.Running
 running-phase phase.Idle h = absurd (false≢true h)
 running-phase phase.Waiting h = absurd (false≢true h)
 running-phase phase.Running h = refl
@@ -111,7 +124,7 @@ told-given s seat n run in_phase is =
 abbrev pub done_for : (Session → Result Change Refusal) → Option Session → Result Change Refusal
 done_for act o = elim o [ Some x ↦ act x | None ↦ Err refusal.NoSuchSession ]
 
-poll-quiet : (s : State) (seat n : ℕ) (x : Session) → session_of s seat n ≡ Some x → is_running x.phase ≡ true → attempted s seat (Poll n) ≡ quiet s (answer.Tells n)
+pub poll-quiet : (s : State) (seat n : ℕ) (x : Session) → session_of s seat n ≡ Some x → is_running x.phase ≡ true → attempted s seat (Poll n) ≡ quiet s (answer.Tells n)
 poll-quiet s seat n x found runs =
     let is = running-phase x.phase runs in
     let ok : change s seat (Poll n) ≡ Ok (quiet s (answer.Tells x.number)) =
@@ -133,4 +146,4 @@ poll-given s seat at n run healthy is =
     (sym asks_it) (told-given (settled t) seat n run))
     (λ still in_phase running. subst (λ (d : Change). IsGiven run (reply_of d.state d.answer)) (sym asks_it)
     (told-given t seat n run (found-facts s at healthy).in_phase (run-found t seat n there.0 was.runner there.1 runs ∙ ap (λ q. Some q) was.is)))
-    then.in_phase (runs-on s seat at seat n event run healthy tt is (λ e. cc))
+    then.in_phase (runs-on s seat at seat n event run healthy tt is (λ e. cc) (λ e. cc))

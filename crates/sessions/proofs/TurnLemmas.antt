@@ -1,6 +1,8 @@
 -- What a script does in its machine, as its turns say.
-use Rattle.std.proofs.Common.{◌≡◌, ℕ, suc, ◌<◌, List, [], ◌∷◌, ◌++◌, length, get_or, set, take, drop, remove, Some, Result, Ok, Err, refl, sym, ap, ◌∙◌, subst, arith}
+use Rattle.std.proofs.Common.{◌≡◌, ℕ, suc, ◌<◌, true, List, [], ◌∷◌, ◌++◌, length, get_or, set, take, drop, remove, Option, Some, None, Result, Ok, Err, refl, sym, ap, ◌∙◌, subst, arith}
 use Rattle.std.specs.List.{insert}
+use Rattle.std.specs.Option.{is_some}
+use Rattle.std.proofs.lemmas.Bool.{false≢true}
 use Rattle.std.proofs.lemmas.List.{map-append, length-take, set_split}
 use Rattle.std.proofs.Math.Seq.{map-set_same, take-append_seam, drop-append_seam}
 use Rattle.rm_base.specs.declared.entry.Answered.{Answered}
@@ -19,15 +21,15 @@ use Rattle.std.specs.Prelude.{IfOk}
 use Rattle.rm_base.specs.declared.select.Select.{Select}
 use Rattle.rm_base.specs.Select.{select_floor}
 use Rattle.sessions.specs.declared.script.Turned.{Turned}
-use Rattle.sessions.specs.Commands.{Request, Done, Close}
+use Rattle.sessions.specs.Commands.{Request, Close}
 use Rattle.sessions.specs.Held.{named_session, held_names, unnumbered, PrintsAs}
 use Rattle.sessions.specs.Host.{state_of, Called, desk_known}
 use Rattle.sessions.specs.Plans.{plan_of, without_plan}
 use Rattle.sessions.specs.Running.{DoesRequest, Makes, seen_turn}
 use Rattle.sessions.specs.SessionNames.{NamedSession, place_named, session_named, without_name}
 use Rattle.sessions.specs.Texts.{line_text, queued_text}
-use Rattle.sessions.specs.Turns.{ScriptState, Goes, called, after_close, after_finish, after_submit, done_text, done_turn, query_turn, request_turn, session_turn}
-use Rattle.sessions.proofs.PrintLemmas.{done-shown, finish-shown, queued-shown, submit-shown}
+use Rattle.sessions.specs.Turns.{ScriptState, Goes, called, after_close, after_finish, after_submit, done_text, finish_turn, checked_turn, done_turn, query_turn, request_turn, session_turn}
+use Rattle.sessions.proofs.PrintLemmas.{checked-shown, done-shown, finish-shown, queued-shown, submit-shown}
 use Rattle.sessions.proofs.HeldLaws.{found-at}
 use Rattle.sessions.proofs.HostLaws.{called-alone}
 
@@ -149,20 +151,35 @@ closed-not d e hs plans tables at s session place x g refusal answered seen foun
     (stepped-state d e hs (set hs place g) plans tables at s (event.Close x.session.number) answered seen made (names-set hs place x g there same))
     is
 
--- what `done` prints and leaves, by the state behind the machine call
+-- what the end of a query prints and leaves, by the state behind the machine call
 pub finished-turn : (s u : ScriptState) (session : Name) (number : ℕ) (r : Reply) → Makes s u (event.Finish number) r
-    → Goes (done_text u.tables session (plan_of u.plans number) r) (after_finish u number r) ≡ done_turn s session number
+    → Goes (done_text u.tables session (plan_of u.plans number) r) (after_finish u number r) ≡ finish_turn s session number
 finished-turn s u session number r makes =
     let o = step s.machine 0 s.moment (event.Finish number) in
     ap (λ (v : ScriptState). Goes (done_text v.tables session (plan_of v.plans number) r) (after_finish v number r)) makes.state
     ∙ ap (λ (l : List ℕ). Goes l (after_finish (let v : ScriptState = record s { machine = o.state } in v) number r)) (done-shown s.tables session (plan_of s.plans number) r o.reply makes.reply)
     ∙ ap (Goes (done_text s.tables session (plan_of s.plans number) o.reply)) (finish-shown (let v : ScriptState = record s { machine = o.state } in v) number r o.reply makes.reply)
 
-pub finished-request : {E : Type 0} (s u t : ScriptState) (session : Name) (number : ℕ) (r : Reply) (out : Result Turned E) → Makes s u (event.Finish number) r → session_named s.names session ≡ Some number
+pub finished-did : {E : Type 0} (s u t : ScriptState) (session : Name) (number : ℕ) (r : Reply) (out : Result Turned E) → Makes s u (event.Finish number) r
     → IfOk out (λ did. seen_turn did t ≡ Goes (done_text u.tables session (plan_of u.plans number) r) (after_finish u number r))
-    → IfOk out (λ did. seen_turn did t ≡ session_turn s session Done (session_named s.names session))
-finished-request s u t session number r (Ok did) makes found h = h ∙ finished-turn s u session number r makes ∙ ap (session_turn s session Done) (sym found)
-finished-request s u t session number r (Err e) makes found h = tt
+    → IfOk out (λ did. seen_turn did t ≡ finish_turn s session number)
+finished-did s u t session number r (Ok did) makes h = h ∙ finished-turn s u session number r makes
+finished-did s u t session number r (Err e) makes h = tt
+
+-- what `done` does with a plan, by the state behind the check
+pub checked-did : {E : Type 0} (s u t : ScriptState) (session : Name) (number : ℕ) (plan : Option Select) (r : Reply) (out : Result Turned E) → Makes s u (event.Check number) r
+    → is_some plan ≡ true → IfOk out (λ did. seen_turn did t ≡ checked_turn u session number r) → IfOk out (λ did. seen_turn did t ≡ done_turn s session number plan)
+checked-did s u t session number None r out makes kept h = absurd (false≢true kept)
+checked-did s u t session number (Some plan) r (Ok did) makes kept h =
+    let o = step s.machine 0 s.moment (event.Check number) in
+    h ∙ checked-shown u session number r o.reply makes.reply ∙ ap (λ (v : ScriptState). checked_turn v session number o.reply) makes.state
+checked-did s u t session number (Some plan) r (Err e) makes kept h = tt
+
+-- what is done for a session that was found by its name
+pub request-did : {E : Type 0} (s t : ScriptState) (session : Name) (number : ℕ) (request : Request) (out : Result Turned E) → session_named s.names session ≡ Some number
+    → IfOk out (λ did. seen_turn did t ≡ request_turn s session number request) → IfOk out (λ did. seen_turn did t ≡ session_turn s session request (session_named s.names session))
+request-did s t session number request (Ok did) found h = h ∙ ap (session_turn s session request) (sym found)
+request-did s t session number request (Err e) found h = tt
 
 -- what `query` prints and leaves, by the state behind the machine call
 pub submitted-turn : (s u t : ScriptState) (session : Name) (number : ℕ) (plan : Select) (r : Reply) (text : List ℕ) → Makes s u (event.Submit number (select_floor plan)) r

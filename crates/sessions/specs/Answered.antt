@@ -1,5 +1,5 @@
 -- What the run of a plan came to, and what an answer prints.
-use Rattle.std.specs.Prelude.{◌≡◌, ◌<◌, ℕ, false, List, [], ◌++◌, length}
+use Rattle.std.specs.Prelude.{◌≡◌, ◌<◌, ℕ, false, List, [], ◌++◌, length, string_bytes}
 use Rattle.csv.specs.Writing.{default_writer, writer_setup, fields_written, has_written}
 use Rattle.csv.specs.declared.writer.Writer.{Writer}
 use Rattle.query_run.specs.Running.{RunOutcome}
@@ -35,9 +35,13 @@ head_text session names (ran.SumOutOfRange column sum) = outcome_text session na
 head_text session names (ran.TooLarge rows) = outcome_text session names (Meant (AnswerTooLarge rows))
 head_text session names ran.NeedsSpill = outcome_text session names Spills
 
--- what an answer prints, and the release of the query's grant
+-- how a query's run ended, and the release of its grant
+abbrev pub told_text : Answered → List ℕ
+told_text a = outcome_text a.session a.plan.names (ran_outcome a.ran) ++ line_text a.session (reply.Released a.released)
+
+-- what an answer prints: what is told before it, and then this
 abbrev pub answer_text : Answered → List ℕ
-answer_text a = outcome_text a.session a.plan.names (ran_outcome a.ran) ++ line_text a.session (reply.Released a.released)
+answer_text a = string_bytes a.before ++ told_text a
 
 -- the writer has the default settings, and stands between two rows
 pub record IsBetweenRows {W : Type 0} (w : Writer W) : Type 0 where

@@ -11,15 +11,19 @@ use Rattle.sessions.specs.declared.command.Request.TheVariants as asked
 use Rattle.sessions.specs.declared.command.Command.{Command as Told}
 use Rattle.sessions.specs.declared.command.Command.TheVariants as told
 use Rattle.rm_base.specs.Name.{name_of}
-use Rattle.sessions.specs.Numbers.{script_number, floor_of}
+use Rattle.sessions.specs.Numbers.{script_number, positive_of, cap_of}
 use Rattle.sessions.specs.Words.{is_space, line_words, one_behind, two_behind, three_behind}
 
 -- what a line asks of a session
 pub data Request : Type 0 where
   SetPool : (pool : Name) → Request
+  SetCap : (cap : Option ℕ) → Request
   Ask : (floor : ℕ) → Request
   Poll : Request
+  Check : Request
+  Way : Request
   Done : Request
+  Cancel : (target : Name) → Request
   Close : Request
 
 -- what a line of a script asks for
@@ -34,9 +38,13 @@ pub data Command : Type 0 where
 -- what a request and a command of the program are seen as
 abbrev pub seen_request : Asked → Request
 seen_request (asked.SetPool pool) = SetPool pool
+seen_request (asked.SetCap cap) = SetCap cap
 seen_request (asked.Ask floor) = Ask floor
 seen_request asked.Poll = Poll
+seen_request asked.Check = Check
+seen_request asked.Way = Way
 seen_request asked.Done = Done
+seen_request (asked.Cancel target) = Cancel target
 seen_request asked.Close = Close
 
 abbrev pub seen_command : Told → Command
@@ -59,7 +67,10 @@ verb_of word =
     else (if bytes_eq word (codes "done") then Some verb.Done
     else (if bytes_eq word (codes "close") then Some verb.Close
     else (if bytes_eq word (codes "query") then Some verb.Query
-    else (if bytes_eq word (codes "table") then Some verb.Table else None)))))))))
+    else (if bytes_eq word (codes "table") then Some verb.Table
+    else (if bytes_eq word (codes "check") then Some verb.Check
+    else (if bytes_eq word (codes "way") then Some verb.Way
+    else (if bytes_eq word (codes "cancel") then Some verb.Cancel else None))))))))))))
 
 -- what stands before the first space of a line
 abbrev pub first_word : List ℕ → List ℕ
@@ -91,7 +102,11 @@ moment_form words = option_and_then (λ moment. option_map At (script_number mom
 
 -- `S FLOOR`
 abbrev pub floor_form : List (List ℕ) → Option Command
-floor_form words = option_and_then (λ (session, floor). with_both (λ s n. Of s (Ask n)) (name_of session) (floor_of floor)) (two_behind words)
+floor_form words = option_and_then (λ (session, floor). with_both (λ s n. Of s (Ask n)) (name_of session) (positive_of floor)) (two_behind words)
+
+-- `S T`
+abbrev pub cancel_form : List (List ℕ) → Option Command
+cancel_form words = option_and_then (λ (session, target). with_both (λ s t. Of s (Cancel t)) (name_of session) (name_of target)) (two_behind words)
 
 -- `S USER`
 abbrev pub user_form : List ℕ × List ℕ → Option Command
@@ -106,9 +121,11 @@ abbrev pub open_forms : Option (List ℕ × List ℕ) → Option (List ℕ × Li
 open_forms (Some pair) triple = user_form pair
 open_forms None triple = option_and_then user_pool_form triple
 
--- `S pool POOL`, where `pool` is compared as written
-abbrev pub pool_form : List ℕ × List ℕ × List ℕ → Option Command
-pool_form (session, key, pool) = if bytes_eq key (codes "pool") then with_both (λ s p. Of s (SetPool p)) (name_of session) (name_of pool) else None
+-- `S pool POOL` or `S cap CAP`, where `pool` and `cap` are compared as written
+abbrev pub set_form : List ℕ × List ℕ × List ℕ → Option Command
+set_form (session, key, value) =
+    if bytes_eq key (codes "pool") then with_both (λ s p. Of s (SetPool p)) (name_of session) (name_of value)
+    else (if bytes_eq key (codes "cap") then with_both (λ s c. Of s (SetCap c)) (name_of session) (cap_of value) else None)
 
 -- a text without the spaces at its front
 abbrev pub without_spaces : List ℕ → List ℕ
@@ -132,13 +149,16 @@ abbrev pub command_with : Verb → List ℕ → Option Command
 command_with verb.At line = moment_form (line_words line)
 command_with verb.Sql line = option_map Sql (text_behind line)
 command_with verb.Open line = open_forms (two_behind (line_words line)) (three_behind (line_words line))
-command_with verb.Set line = option_and_then pool_form (three_behind (line_words line))
+command_with verb.Set line = option_and_then set_form (three_behind (line_words line))
 command_with verb.Ask line = floor_form (line_words line)
 command_with verb.Poll line = plain_form Poll (line_words line)
 command_with verb.Done line = plain_form Done (line_words line)
 command_with verb.Close line = plain_form Close (line_words line)
 command_with verb.Query line = option_and_then (λ words. query_form (without_spaces words)) (text_behind line)
 command_with verb.Table line = table_form (line_words line)
+command_with verb.Check line = plain_form Check (line_words line)
+command_with verb.Way line = plain_form Way (line_words line)
+command_with verb.Cancel line = cancel_form (line_words line)
 
 -- the command that a line gives, where its first word is a verb and what follows has a form of that verb
 abbrev pub command_of : List ℕ → Option Command

@@ -1,6 +1,6 @@
 -- Numbers that are written in decimal digits alone, with no sign.
-use Rattle.std.specs.Prelude.{ℕ, ◌+◌, Bool, ◌&&◌, if◌then◌else◌, nat_lt, nat_le, List, length, Option, Some, None}
-use Rattle.std.specs.Str.{all_ascii_digits}
+use Rattle.std.specs.Prelude.{ℕ, ◌+◌, Bool, ◌&&◌, if◌then◌else◌, nat_lt, nat_le, List, length, Option, Some, None, option_map, codes}
+use Rattle.std.specs.Str.{all_ascii_digits, bytes_eq}
 use Rattle.std.specs.Str.Parse.{digits_value}
 use Rattle.rm_base.specs.declared.limits.TheConstants.{DIGITS_MOST}
 
@@ -30,6 +30,10 @@ in_range least most number = below (most + 1) (at_least least number)
 abbrev pub script_number : List ℕ → Option ℕ
 script_number word = if nat_le (length word) DIGITS_MOST then numeral_of word else None
 
--- a floor: a number of a script from 1 on
-abbrev pub floor_of : List ℕ → Option ℕ
-floor_of word = at_least 1 (script_number word)
+-- a number of a script from 1 on: a floor, or a cap
+abbrev pub positive_of : List ℕ → Option ℕ
+positive_of word = at_least 1 (script_number word)
+
+-- a runtime cap in milliseconds, or `none`, which is compared as written
+abbrev pub cap_of : List ℕ → Option (Option ℕ)
+cap_of word = if bytes_eq word (codes "none") then Some None else option_map Some (positive_of word)

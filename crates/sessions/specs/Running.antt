@@ -27,15 +27,19 @@ seen_turn (turned.Goes text) s = Goes (string_bytes text) s
 seen_turn (turned.Answers answer) s = Goes (answer_text answer) s
 seen_turn (turned.Stops text) s = Stops (string_bytes text) BAD_TABLE s
 
--- no session and no query ends by this event of its own
-abbrev pub ends_nothing : Event → Bool
-ends_nothing (event.Define statement) = true
-ends_nothing (event.Open user) = true
-ends_nothing (event.SetPool session pool) = true
-ends_nothing (event.Submit session floor) = true
-ends_nothing (event.Poll session) = true
-ends_nothing (event.Finish session) = false
-ends_nothing (event.Close session) = false
+-- by this event no session ends, and no query of its session ends, gives way, or is told to
+abbrev pub keeps_sessions : Event → Bool
+keeps_sessions (event.Define statement) = true
+keeps_sessions (event.Open user) = true
+keeps_sessions (event.SetPool session pool) = true
+keeps_sessions (event.SetCap session cap) = true
+keeps_sessions (event.Submit session floor) = true
+keeps_sessions (event.Poll session) = true
+keeps_sessions (event.Check session) = false
+keeps_sessions (event.GiveWay session) = false
+keeps_sessions (event.Finish session) = false
+keeps_sessions (event.Cancel by target) = true
+keeps_sessions (event.Close session) = false
 
 -- what was asked of the session of this name was done, and the text tells of it
 abbrev pub DoesRequest : ScriptState → ScriptState → Name → Request → List ℕ → Type 0

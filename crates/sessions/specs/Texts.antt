@@ -38,7 +38,7 @@ reply_text (reply.Refused refusal) = refusal_text refusal
 abbrev pub line_text : Name → Reply → List ℕ
 line_text session answer = name_text session ++ (codes " " ++ (reply_text answer ++ 10 ∷ []))
 
--- the line of a reply to Submit: a query that waits is `queued`
+-- the line of a reply to Submit or GiveWay: a query that waits is `queued`
 abbrev pub queued_text : Name → Reply → List ℕ
 queued_text session (reply.Waiting query place) = name_text session ++ (codes " queued " ++ (decimal place ++ 10 ∷ []))
 queued_text session answer = line_text session answer

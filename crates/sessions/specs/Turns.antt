@@ -19,10 +19,10 @@ use Rattle.csv_tables.specs.Named.{has_table, catalog_of}
 use Rattle.pool_sql.specs.Reading.{read_of}
 use Rattle.query_plan.specs.Reading.{read_of as select_of}
 use Rattle.query_run.specs.Running.{tables_called}
-use Rattle.rm_rules.specs.Acceptance.{accepted, is_judged}
+use Rattle.rm_rules.specs.Acceptance.{accepted}
 use Rattle.rm_rules.specs.State.{State}
 use Rattle.rm_rules.specs.Step.{step}
-use Rattle.sessions.specs.Commands.{Request, SetPool, Ask, Poll, Done, Close, Command, At, Sql, Open, Query, Load, Of}
+use Rattle.sessions.specs.Commands.{Request, SetPool, SetCap, Ask, Poll, Check, Way, Done, Cancel, Close, Command, At, Sql, Open, Query, Load, Of}
 use Rattle.sessions.specs.declared.plans.KeptPlan.{KeptPlan}
 use Rattle.sessions.specs.declared.status.TheConstants.{BAD_TABLE}
 use Rattle.sessions.specs.AnswerTexts.{outcome_text, plan_outcome, fault_text, loaded_text, unloaded_text}
@@ -61,10 +61,9 @@ abbrev pub judged_turn : ScriptState → Statement → Result Definitions Refusa
 judged_turn s statement (Err refusal) = Goes (bare_text (reply.Refused refusal)) s
 judged_turn s statement (Ok definitions) = called s (event.Define statement) bare_text
 
--- a statement that was read: DROP RESOURCE POOL makes a bad line
+-- a statement that was read
 abbrev pub statement_turn : ScriptState → Statement → Turn
-statement_turn s statement =
-    if is_judged statement then judged_turn s statement (accepted s.machine.definitions statement) else Bad
+statement_turn s statement = judged_turn s statement (accepted s.machine.definitions statement)
 
 -- `sql TEXT`, by what TEXT is read as
 abbrev pub read_turn : ScriptState → Result Statement Refusal → Turn
@@ -129,7 +128,7 @@ abbrev pub query_for : ScriptState → Name → List ℕ → Option ℕ → Turn
 query_for s session text None = Bad
 query_for s session text (Some number) = query_turn s session number (select_of (catalog_of s.tables) text)
 
--- the script after the reply to Poll: no plan is kept of a query whose end was told
+-- the script after the reply to Poll or GiveWay: no plan is kept of a query whose end was told
 abbrev pub after_poll : ScriptState → ℕ → Reply → ScriptState
 after_poll s number (reply.Ended end) = record s { plans = without_plan number s.plans }
 after_poll s number answer = s
@@ -145,18 +144,58 @@ abbrev pub after_finish : ScriptState → ℕ → Reply → ScriptState
 after_finish s number (reply.Released grant) = record s { plans = without_plan number s.plans }
 after_finish s number answer = s
 
--- what `done S` prints, by the plan that is kept for S and the reply to Finish: the plan runs with the grant of its query
+-- `way S`: the plan of a query that gave way is kept while it waits, or runs anew
+abbrev pub way_turn : ScriptState → Name → ℕ → Turn
+way_turn s session number =
+    let o = step s.machine 0 s.moment (event.GiveWay number) in
+    Goes (queued_text session o.reply) (after_poll (record s { machine = o.state }) number o.reply)
+
+-- what is printed of a query that ends, by the plan that is kept for S and the reply to Finish: the plan runs with the grant
+-- of its query
 abbrev pub done_text : List NamedTable → Name → Option Select → Reply → List ℕ
 done_text tables session None answer = line_text session answer
 done_text tables session (Some plan) (reply.Released grant) =
     outcome_text session plan.names (plan_outcome grant plan (tables_called tables plan.tables)) ++ line_text session (reply.Released grant)
 done_text tables session (Some plan) answer = line_text session answer
 
--- `done S`: no plan runs where no query does
-abbrev pub done_turn : ScriptState → Name → ℕ → Turn
-done_turn s session number =
+-- the plan of S runs, where one is kept, and its query ends; no plan runs where no query does
+abbrev pub finish_turn : ScriptState → Name → ℕ → Turn
+finish_turn s session number =
     let o = step s.machine 0 s.moment (event.Finish number) in
     Goes (done_text s.tables session (plan_of s.plans number) o.reply) (after_finish (record s { machine = o.state }) number o.reply)
+
+-- the query of S ends, and its plan does not run
+abbrev pub end_turn : ScriptState → Name → ℕ → Turn
+end_turn s session number =
+    let o = step s.machine 0 s.moment (event.Finish number) in
+    Goes (line_text session o.reply) (after_finish (record s { machine = o.state }) number o.reply)
+
+-- a turn that prints this first
+abbrev pub told_first : List ℕ → Turn → Turn
+told_first first Bad = Bad
+told_first first (Goes text state) = Goes (first ++ text) state
+told_first first (Stops text status state) = Stops (first ++ text) status state
+
+-- what `done S` does with a plan, by the reply to Check
+abbrev pub checked_turn : ScriptState → Name → ℕ → Reply → Turn
+checked_turn s session number reply.Go = finish_turn s session number
+checked_turn s session number (reply.MovedOn pool) = told_first (line_text session (reply.MovedOn pool)) (finish_turn s session number)
+checked_turn s session number (reply.GiveWay pool) = told_first (line_text session (reply.GiveWay pool)) (way_turn s session number)
+checked_turn s session number (reply.CapEnded which ran cap) = told_first (line_text session (reply.CapEnded which ran cap)) (end_turn s session number)
+checked_turn s session number reply.Stopping = told_first (line_text session reply.Stopping) (end_turn s session number)
+checked_turn s session number answer = Goes (line_text session answer) s
+
+-- `done S`, by the plan that is kept for S: only a query with a plan is checked
+abbrev pub done_turn : ScriptState → Name → ℕ → Option Select → Turn
+done_turn s session number None = finish_turn s session number
+done_turn s session number (Some plan) =
+    let o = step s.machine 0 s.moment (event.Check number) in
+    checked_turn (record s { machine = o.state }) session number o.reply
+
+-- `cancel S T`, by the session that has the name T: bad where none has
+abbrev pub cancel_turn : ScriptState → Name → ℕ → Option ℕ → Turn
+cancel_turn s session number None = Bad
+cancel_turn s session number (Some target) = called s (event.Cancel number target) (line_text session)
 
 -- a table that a file's bytes are, or are not: then the script ends
 abbrev pub loaded_turn : ScriptState → Name → Result TableSeen LoadError → Turn
@@ -182,9 +221,13 @@ table_turn files s name path = if has_no_place s.tables name then Bad else file_
 -- what is asked of the session S of this number
 abbrev pub request_turn : ScriptState → Name → ℕ → Request → Turn
 request_turn s session number (SetPool pool) = called s (event.SetPool number pool) (line_text session)
+request_turn s session number (SetCap cap) = called s (event.SetCap number cap) (line_text session)
 request_turn s session number (Ask floor) = called s (event.Submit number floor) (queued_text session)
 request_turn s session number Poll = poll_turn s session number
-request_turn s session number Done = done_turn s session number
+request_turn s session number Check = called s (event.Check number) (line_text session)
+request_turn s session number Way = way_turn s session number
+request_turn s session number Done = done_turn s session number (plan_of s.plans number)
+request_turn s session number (Cancel target) = cancel_turn s session number (session_named s.names target)
 request_turn s session number Close = close_turn s session number
 
 -- what is asked of S, by the session that has the name: bad where none has

@@ -4,7 +4,7 @@ ghost use Rattle.std.specs.Prelude.{◌≡◌, ◌≤◌, ◌<◌, length, IfOk,
 ghost use Rattle.std.specs.Io.KnownBytes.{Appends};
 ghost use Rattle.query_run.specs.Running.{IsRunnable, tables_called};
 ghost use Rattle.sessions.specs.AnswerTexts.{rows_text, rows_head, plan_outcome};
-ghost use Rattle.sessions.specs.Answered.{ran_outcome, rows_in, head_text, answer_text};
+ghost use Rattle.sessions.specs.Answered.{ran_outcome, rows_in, head_text, told_text, answer_text};
 ghost use Rattle.sessions.specs.Transfers.{ExplainsOutput};
 ghost use Rattle.sessions.specs.World.{seen_sink};
 
@@ -38,10 +38,11 @@ pub enum Ran {
     NeedsSpill,
 }
 
-/// The answer of a session's query, with the grant that was released after it.
+/// The answer of a session's query, with what is told before it and the grant that was released after it.
 #[derive(Drop)]
 pub struct Answer {
     pub session: Name,
+    pub before: String,
     pub plan: Plan,
     pub ran: Ran,
     pub released: u64,
@@ -78,6 +79,16 @@ pub fn write_answer<O: Sink>(alloc: Global, answer: &Answer, out: &mut O) -> Res
     ensures later { O.faults out.old ≤ O.faults out.new }
     ensures whole { OnOk result (Appends (O.written out.old) (O.written out.new) (answer_text answer.now)) }
     ensures err { IfErr result (ExplainsOutput (seen_sink O.Sink out.old) (seen_sink O.Sink out.new) (answer_text answer.now)) }
+{
+    write_text(out, answer.before.as_bytes())?;
+    write_outcome(alloc, answer, out)
+}
+
+/// Writes what an answer prints behind what is told before it.
+fn write_outcome<O: Sink>(alloc: Global, answer: &Answer, out: &mut O) -> Result<(), Failure>
+    ensures later { O.faults out.old ≤ O.faults out.new }
+    ensures whole { OnOk result (Appends (O.written out.old) (O.written out.new) (told_text answer.now)) }
+    ensures err { IfErr result (ExplainsOutput (seen_sink O.Sink out.old) (seen_sink O.Sink out.new) (told_text answer.now)) }
 {
     let names = answer.plan.select().names.as_slice();
     let head = head_bytes(alloc, answer.session, names, &answer.ran)?;

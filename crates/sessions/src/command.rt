@@ -1,11 +1,11 @@
 //! The commands of a script.
 
 ghost use Rattle.std.specs.Prelude.{◌≡◌, map, option_map, IfOk};
-ghost use Rattle.sessions.specs.Commands.{seen_request, seen_command, verb_of, first_word, text_behind, plain_form, moment_form, floor_form, user_form, user_pool_form, open_forms, pool_form, without_spaces, query_form, table_form, command_with, command_of};
+ghost use Rattle.sessions.specs.Commands.{seen_request, seen_command, verb_of, first_word, text_behind, plain_form, moment_form, floor_form, user_form, user_pool_form, cancel_form, open_forms, set_form, without_spaces, query_form, table_form, command_with, command_of};
 ghost use Rattle.sessions.specs.Words.{two_behind, three_behind};
 ghost use Rattle.std.specs.Option.{option_and_then};
 
-use crate::numbers::{Number, floor_of, moment_of};
+use crate::numbers::{Number, cap_of, moment_of, positive_of};
 use crate::words::{line_words, one_behind, three_behind, two_behind};
 use rm_base::name::Name;
 use std::alloc::{AllocError, Global};
@@ -42,12 +42,20 @@ pub enum Command<'a> {
 pub enum Request {
     /// `set S pool POOL`: it chooses a pool.
     SetPool(Name),
+    /// `set S cap N` or `set S cap none`: it has a runtime cap of its own in milliseconds, or none.
+    SetCap(Option<u64>),
     /// `ask S FLOOR`: it submits a query that needs at least the floor.
     Ask(u64),
     /// `poll S`: it asks what became of its query.
     Poll,
+    /// `check S`: it asks whether its query may run on.
+    Check,
+    /// `way S`: its query gives way.
+    Way,
     /// `done S`: it ends its query.
     Done,
+    /// `cancel S T`: it cancels the query of the session of this name.
+    Cancel(Name),
     /// `close S`: it goes.
     Close,
 }
@@ -65,6 +73,9 @@ pub enum Verb {
     Close,
     Query,
     Table,
+    Check,
+    Way,
+    Cancel,
 }
 
 /// The command that a line gives, if it gives one.
@@ -87,13 +98,16 @@ fn read_with(alloc: Global, verb: Verb, line: &str) -> Result<Option<Command<'_>
         Verb::At => Ok(moment_form(&line_words(alloc, line)?)),
         Verb::Sql => Ok(text_behind(line).map(Command::Sql)),
         Verb::Open => Ok(open_forms(&line_words(alloc, line)?)),
-        Verb::Set => Ok(pool_form(&line_words(alloc, line)?)),
+        Verb::Set => Ok(set_form(&line_words(alloc, line)?)),
         Verb::Ask => Ok(floor_form(&line_words(alloc, line)?)),
         Verb::Poll => Ok(plain_form(Request::Poll, &line_words(alloc, line)?)),
         Verb::Done => Ok(plain_form(Request::Done, &line_words(alloc, line)?)),
         Verb::Close => Ok(plain_form(Request::Close, &line_words(alloc, line)?)),
         Verb::Query => Ok(query_behind(line)),
         Verb::Table => Ok(table_form(&line_words(alloc, line)?)),
+        Verb::Check => Ok(plain_form(Request::Check, &line_words(alloc, line)?)),
+        Verb::Way => Ok(plain_form(Request::Way, &line_words(alloc, line)?)),
+        Verb::Cancel => Ok(cancel_form(&line_words(alloc, line)?)),
     }
 }
 
@@ -112,6 +126,9 @@ fn verb_of(word: &str) -> Option<Verb>
         "close" => Some(Verb::Close),
         "query" => Some(Verb::Query),
         "table" => Some(Verb::Table),
+        "check" => Some(Verb::Check),
+        "way" => Some(Verb::Way),
+        "cancel" => Some(Verb::Cancel),
         _ => None,
     }
 }
@@ -199,7 +216,15 @@ fn floor_form<'a>(words: &[&str]) -> Option<Command<'a>>
     ensures { option_map seen_command result ≡ floor_form (map (λ word. word.now) words.now) }
 {
     let (session, floor) = two_behind(words)?;
-    Some(Command::Of(Name::of(session)?, Request::Ask(floor_of(floor)?)))
+    Some(Command::Of(Name::of(session)?, Request::Ask(positive_of(floor)?)))
+}
+
+/// `S T`
+fn cancel_form<'a>(words: &[&str]) -> Option<Command<'a>>
+    ensures { option_map seen_command result ≡ cancel_form (map (λ word. word.now) words.now) }
+{
+    let (session, target) = two_behind(words)?;
+    Some(Command::Of(Name::of(session)?, Request::Cancel(Name::of(target)?)))
 }
 
 /// `S USER`, or else `S USER POOL`
@@ -238,13 +263,14 @@ fn user_pool_form<'a>(session: &str, user: &str, pool: &str) -> Option<Command<'
     })
 }
 
-/// `S pool POOL`
-fn pool_form<'a>(words: &[&str]) -> Option<Command<'a>>
-    ensures { option_map seen_command result ≡ option_and_then pool_form (three_behind (map (λ word. word.now) words.now)) }
+/// `S pool POOL` or `S cap CAP`
+fn set_form<'a>(words: &[&str]) -> Option<Command<'a>>
+    ensures { option_map seen_command result ≡ option_and_then set_form (three_behind (map (λ word. word.now) words.now)) }
 {
-    let (session, key, pool) = three_behind(words)?;
+    let (session, key, value) = three_behind(words)?;
     match key {
-        "pool" => Some(Command::Of(Name::of(session)?, Request::SetPool(Name::of(pool)?))),
+        "pool" => Some(Command::Of(Name::of(session)?, Request::SetPool(Name::of(value)?))),
+        "cap" => Some(Command::Of(Name::of(session)?, Request::SetCap(cap_of(value)?))),
         _ => None,
     }
 }

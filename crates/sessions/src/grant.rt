@@ -2,8 +2,8 @@ ghost use Rattle.std.specs.Prelude.{◌≡◌};
 
 use std::marker::Model;
 
-/// The memory that an admitted query may use. A grant is not dropped: its session gives it back, with the event that
-/// ends the query's run.
+/// The memory that an admitted query may use. A grant is not dropped: its session gives it back, with the event by which
+/// the query ends or gives way.
 #[derive(Debug)]
 pub struct Grant {
     session: u32,

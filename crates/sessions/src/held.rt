@@ -1,9 +1,9 @@
 //! The sessions that a script has opened, by its names for them.
 
-ghost use Rattle.std.specs.Prelude.{◌≡◌, ◌<◌, length, position, IfErr, IfSome};
+ghost use Rattle.std.specs.Prelude.{◌≡◌, ◌<◌, false, length, position, IfErr, IfSome};
 ghost use Rattle.std.specs.List.{list_any};
 ghost use Rattle.rm_base.specs.Name.{same_name};
-ghost use Rattle.sessions.specs.Held.{named_session, IsHeld, printed, PrintsAs, grant_after, closing_reply};
+ghost use Rattle.sessions.specs.Held.{named_session, IsHeld, printed, PrintsAs, grant_after, given_up, held_back, closing_reply};
 ghost use Rattle.sessions.specs.Host.{desk_known};
 ghost use Rattle.sessions.specs.Session.{CallsOnce};
 
@@ -18,11 +18,12 @@ use rm_base::name::Name;
 use rm_base::refusal::Refusal;
 use rm_base::reply::Reply;
 
-/// A session of a script, with its grant while one is out.
+/// A session of a script, with its grant while one is out, and whether its query is to give way, as a check replied.
 pub struct Held {
     pub name: Name,
     pub session: Session,
     pub grant: Option<Grant>,
+    pub leaving: bool,
 }
 
 /// A grant that is left when its script ends is given up, with no event.
@@ -32,6 +33,7 @@ impl Drop for Held {
             name: _,
             session: _,
             grant,
+            leaving: _,
         } = self;
         if let Some(grant) = grant {
             let _bytes = grant.spend();
@@ -67,6 +69,72 @@ impl Held {
         reply
     }
 
+    /// Asks whether the query may run on, and keeps in mind whether it is to give way.
+    pub fn check(&mut self, desk: &mut Desk, at: Moment) -> Reply
+        requires { IsHeld (desk_known desk.old) self.old }
+        ensures call { CallsOnce (desk_known desk.old) (desk_known desk.new) at (Event.Check self.old.session.number) (λ reply. reply ≡ result) }
+        ensures held { IsHeld (desk_known desk.new) self.new }
+        ensures named { named_session self.new ≡ named_session self.old }
+    {
+        let reply = self.checked(desk, at);
+        if let Reply::GiveWay(_) = reply {
+            self.leaving = true;
+        }
+        reply
+    }
+
+    /// The reply to Check. Where no grant is out, the event goes to the machine itself.
+    fn checked(&mut self, desk: &mut Desk, at: Moment) -> Reply
+        requires { IsHeld (desk_known desk.old) self.old }
+        ensures call { CallsOnce (desk_known desk.old) (desk_known desk.new) at (Event.Check self.old.session.number) (λ reply. reply ≡ result) }
+        ensures same { self.new ≡ self.old }
+    {
+        match &self.grant {
+            Some(grant) => self.session.check(desk, at, grant),
+            None => {
+                let event = Event::Check {
+                    session: self.session.number(),
+                };
+                desk.call(at, &event).reply
+            }
+        }
+    }
+
+    /// Lets the query give way. Where no grant is out, or the query is not to give way, the event goes to the machine itself.
+    pub fn give_way(&mut self, desk: &mut Desk, at: Moment) -> Reply
+        requires { IsHeld (desk_known desk.old) self.old }
+        ensures call { CallsOnce (desk_known desk.old) (desk_known desk.new) at (Event.GiveWay self.old.session.number) (PrintsAs result) }
+        ensures held { IsHeld (desk_known desk.new) self.new }
+        ensures named { named_session self.new ≡ named_session self.old }
+    {
+        match self.leaving_grant() {
+            Some(grant) => {
+                let told = self.session.give_way(desk, at, grant);
+                let reply = printed(&told);
+                self.keep(told);
+                reply
+            }
+            None => {
+                let event = Event::GiveWay {
+                    session: self.session.number(),
+                };
+                desk.call(at, &event).reply
+            }
+        }
+    }
+
+    /// The grant of a query that is to give way, which it does now.
+    fn leaving_grant(&mut self) -> Option<Grant>
+        ensures grant { result ≡ given_up self.old.leaving self.old.grant }
+        ensures left { self.new ≡ record self.old { grant = held_back self.old.leaving self.old.grant; leaving = false } }
+    {
+        if !self.leaving {
+            return None;
+        }
+        self.leaving = false;
+        self.grant.take()
+    }
+
     /// Ends the query. Where no grant is out, the event goes to the machine itself.
     pub fn finish(&mut self, desk: &mut Desk, at: Moment) -> Reply
         requires { IsHeld (desk_known desk.old) self.old }
@@ -74,6 +142,7 @@ impl Held {
         ensures held { IsHeld (desk_known desk.new) self.new }
         ensures named { named_session self.new ≡ named_session self.old }
     {
+        self.leaving = false;
         match self.grant.take() {
             Some(grant) => Reply::Released(self.session.finish(desk, at, grant)),
             None => {
@@ -97,6 +166,7 @@ impl Held {
             name,
             session,
             grant,
+            leaving,
         } = self;
         match grant {
             None => match session.close(desk, at) {
@@ -106,6 +176,7 @@ impl Held {
                         name,
                         session,
                         grant: None,
+                        leaving,
                     };
                     Err((held, refusal))
                 }
@@ -121,6 +192,7 @@ impl Held {
                     name,
                     session,
                     grant: Some(grant),
+                    leaving,
                 };
                 Err((held, refusal))
             }

@@ -2,7 +2,7 @@
 
 ghost use Rattle.std.specs.Prelude.{◌≡◌, ◌^◌, ◌<◌, option_map};
 ghost use Rattle.rm_base.specs.declared.limits.TheConstants.{DIGITS_MOST};
-ghost use Rattle.sessions.specs.Numbers.{numeral_of, below, script_number, floor_of};
+ghost use Rattle.sessions.specs.Numbers.{numeral_of, below, script_number, positive_of, cap_of};
 
 use rm_base::limits::DIGITS_MOST;
 
@@ -43,9 +43,19 @@ pub fn moment_of(word: &str) -> Option<Number>
     Some(Number { value })
 }
 
-/// A floor: a number of a script from 1 on.
-pub fn floor_of(word: &str) -> Option<u64>
-    ensures { result ≡ floor_of word.now }
+/// A number of a script from 1 on: a floor, or a cap.
+pub fn positive_of(word: &str) -> Option<u64>
+    ensures { result ≡ positive_of word.now }
 {
-    script_number(word).filter(|floor| *floor >= 1)
+    script_number(word).filter(|number| *number >= 1)
+}
+
+/// A runtime cap in milliseconds, or `none`.
+pub fn cap_of(word: &str) -> Option<Option<u64>>
+    ensures { result ≡ cap_of word.now }
+{
+    match word {
+        "none" => Some(None),
+        _ => positive_of(word).map(Some),
+    }
 }

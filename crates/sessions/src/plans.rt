@@ -27,7 +27,7 @@ impl Model for Plans {
 }
 
 impl Plans {
-    ghost use Rattle.std.specs.Prelude.{◌≡◌, ◌==◌, ◌<◌, [], length, position, OnOk, OnErr, IfSome};
+    ghost use Rattle.std.specs.Prelude.{◌≡◌, ◌==◌, ◌<◌, [], length, position, is_some, OnOk, OnErr, IfSome};
     ghost use Rattle.sessions.specs.declared.plans.KeptPlan.{KeptPlan};
     ghost use Rattle.sessions.specs.Plans.{plan_of, with_plan, without_plan};
 
@@ -48,6 +48,13 @@ impl Plans {
         self.forget(session);
         self.plans.push(KeptPlan { session, plan })?;
         Ok(())
+    }
+
+    /// Whether a plan is kept for a session.
+    pub fn has(&self, session: u32) -> bool
+        ensures { result ≡ is_some (plan_of self.now session) }
+    {
+        self.plans.iter().any(|kept| kept.session == session)
     }
 
     /// Keeps no plan for a session, and hands out the one before.

@@ -1,9 +1,8 @@
 //! A script that runs: its machine, the sessions that it has opened there, and its moment.
 
-ghost use Rattle.std.specs.Prelude.{◌≡◌, ◌≤◌, IfOk};
+ghost use Rattle.std.specs.Prelude.{◌≡◌, ◌≤◌, IfOk, string_bytes};
 ghost use Rattle.rm_base.specs.declared.reply.Reply.TheVariants as reply;
-ghost use Rattle.rm_rules.specs.Acceptance.{is_judged};
-ghost use Rattle.sessions.specs.Turns.{ScriptState, Goes, has_no_place};
+ghost use Rattle.sessions.specs.Turns.{ScriptState, Goes, told_first, has_no_place};
 ghost use Rattle.sessions.specs.Running.{seen_turn};
 ghost use Rattle.sessions.specs.Texts.{bare_text};
 
@@ -74,23 +73,23 @@ pub enum Turned {
 }
 
 impl Script {
-    ghost use Rattle.std.specs.Prelude.{◌≡◌, ◌≤◌, true, false, [], Some, Ok, IfOk, IfErr, OnOk, string_bytes};
+    ghost use Rattle.std.specs.Prelude.{◌≡◌, ◌≤◌, true, false, [], Some, Ok, IfOk, IfErr, OnOk, IsSome, string_bytes};
     ghost use Rattle.rm_base.specs.Ranges.{is_statement_in_range};
     ghost use Rattle.rm_base.specs.WellFormed.{IsWellFormed};
     ghost use Rattle.rm_rules.specs.Step.{step};
     ghost use Rattle.rm_rules.specs.Replay.{IsFormed};
     ghost use Rattle.rm_rules.specs.Sound.{IsSound};
     ghost use Rattle.pool_sql.specs.Reading.{read_of};
-    ghost use Rattle.sessions.specs.Commands.{seen_command, seen_request, SetPool, Ask, Poll, Done, Close};
+    ghost use Rattle.sessions.specs.Commands.{seen_command, seen_request, SetPool, SetCap, Ask, Poll, Check, Close};
     ghost use Rattle.sessions.specs.OptionsFacts.{AreWithin};
     ghost use Rattle.sessions.specs.Script.{first_state, line_turn};
     ghost use Rattle.csv_tables.specs.Loading.{table_of};
     ghost use Rattle.query_run.specs.Running.{IsRunnable};
     ghost use Rattle.sessions.specs.Plans.{plan_of};
-    ghost use Rattle.sessions.specs.Turns.{Goes, turn, at_turn, read_turn, statement_turn, open_turn, chosen_turn, after_open, session_turn, query_turn, query_for, after_submit, after_poll, after_finish, done_text, table_turn, loaded_turn, has_no_place};
+    ghost use Rattle.sessions.specs.Turns.{Goes, turn, at_turn, read_turn, statement_turn, open_turn, chosen_turn, after_open, session_turn, query_turn, query_for, after_submit, after_poll, way_turn, after_finish, done_text, finish_turn, end_turn, checked_turn, done_turn, cancel_turn, table_turn, loaded_turn, has_no_place};
     ghost use Rattle.sessions.specs.World.{WhereTold, seen_shelf};
     ghost use Rattle.sessions.specs.SessionNames.{has_session, place_named, session_named};
-    ghost use Rattle.sessions.specs.Running.{seen_turn, ends_nothing, DoesRequest, Makes, IsLineFault, IsCommandFault, IsLoadFault};
+    ghost use Rattle.sessions.specs.Running.{seen_turn, keeps_sessions, DoesRequest, Makes, IsLineFault, IsCommandFault, IsLoadFault};
 
     /// A script before its first line.
     pub fn new(alloc: Global, options: Options) -> Result<Script, AllocError>
@@ -190,9 +189,6 @@ impl Script {
         requires in_range { is_statement_in_range statement.now ≡ true }
         ensures { IfOk result (λ t. seen_turn t self.new ≡ statement_turn self.old statement.now) }
     {
-        if !is_judged(statement) {
-            return Ok(Turned::Bad);
-        }
         match accept(self.definitions(), statement) {
             Ok(()) => {
                 let reply = self.call(&Event::Define(*statement));
@@ -234,6 +230,7 @@ impl Script {
                     name: session,
                     session: opened,
                     grant: None,
+                    leaving: false,
                 })?;
                 Ok(Reply::Opened(number))
             }
@@ -277,9 +274,22 @@ impl Script {
         };
         match request {
             Request::SetPool(pool) => Ok(Turned::Goes(self.set_pool(alloc, session, place, pool)?)),
+            Request::SetCap(cap) => Ok(Turned::Goes(self.set_cap(alloc, session, place, cap)?)),
             Request::Ask(floor) => Ok(Turned::Goes(self.ask(alloc, session, place, floor)?)),
             Request::Poll => Ok(Turned::Goes(self.poll(alloc, session, place)?)),
-            Request::Done => self.finish(alloc, spool, session, place),
+            Request::Check => Ok(Turned::Goes(self.check(alloc, session, place)?)),
+            Request::Way => {
+                let number = self.number_at(session, place);
+                Ok(Turned::Goes(self.way(alloc, session, place, number)?))
+            }
+            Request::Done => {
+                let number = self.number_at(session, place);
+                self.done(alloc, spool, session, place, number)
+            }
+            Request::Cancel(target) => {
+                let number = self.number_at(session, place);
+                self.cancel(alloc, session, number, target)
+            }
             Request::Close => Ok(Turned::Goes(self.close(alloc, session, place)?)),
         }
     }
@@ -298,6 +308,25 @@ impl Script {
         let event = Event::SetPool {
             session: self.held[place].session.number(),
             pool,
+        };
+        let reply = self.call(&event);
+        line_text(alloc, session, reply)
+    }
+
+    /// `set S cap N` or `set S cap none`, where S has this place
+    fn set_cap(
+        &mut self,
+        alloc: Global,
+        session: Name,
+        place: usize,
+        cap: Option<u64>,
+    ) -> Result<String, AllocError>
+        requires { place_named self.old.names session ≡ Some place }
+        ensures { IfOk result (λ text. DoesRequest self.old self.new session (SetCap cap) (string_bytes text)) }
+    {
+        let event = Event::SetCap {
+            session: self.held[place].session.number(),
+            cap,
         };
         let reply = self.call(&event);
         line_text(alloc, session, reply)
@@ -378,6 +407,54 @@ impl Script {
         line_text(alloc, session, reply)
     }
 
+    /// `check S`, where S has this place
+    fn check(&mut self, alloc: Global, session: Name, place: usize) -> Result<String, AllocError>
+        requires { place_named self.old.names session ≡ Some place }
+        ensures { IfOk result (λ text. DoesRequest self.old self.new session Check (string_bytes text)) }
+    {
+        let number = self.number_at(session, place);
+        let reply = self.check_query(session, place, number);
+        line_text(alloc, session, reply)
+    }
+
+    /// `way S`, where S has this place
+    fn way(
+        &mut self,
+        alloc: Global,
+        session: Name,
+        place: usize,
+        number: u32,
+    ) -> Result<String, AllocError>
+        requires place { place_named self.old.names session ≡ Some place }
+        requires number { session_named self.old.names session ≡ Some number }
+        ensures { IfOk result (λ text. Goes (string_bytes text) self.new ≡ way_turn self.old session number) }
+    {
+        let reply = self.give_way(session, place, number);
+        self.forget_ended(number, reply);
+        queued_text(alloc, session, reply)
+    }
+
+    /// `cancel S T`, where S has this number
+    fn cancel(
+        &mut self,
+        alloc: Global,
+        session: Name,
+        number: u32,
+        target: Name,
+    ) -> Result<Turned, AllocError>
+        ensures { IfOk result (λ t. seen_turn t self.new ≡ cancel_turn self.old session number (session_named self.old.names target)) }
+    {
+        let Some(place) = self.place_of(target) else {
+            return Ok(Turned::Bad);
+        };
+        let event = Event::Cancel {
+            by: number,
+            target: self.number_at(target, place),
+        };
+        let reply = self.call(&event);
+        Ok(Turned::Goes(line_text(alloc, session, reply)?))
+    }
+
     /// Keeps no plan of a query whose end was told.
     fn forget_ended(&mut self, number: u32, reply: Reply)
         ensures { self.new ≡ after_poll self.old number reply }
@@ -387,25 +464,109 @@ impl Script {
         }
     }
 
-    /// `done S`, where S has this place
+    /// `done S`, where S has this place. Only a query with a plan is checked.
+    fn done<P: Spool>(
+        &mut self,
+        alloc: Global,
+        spool: &mut P,
+        session: Name,
+        place: usize,
+        number: u32,
+    ) -> Result<Turned, AllocError>
+        requires place { place_named self.old.names session ≡ Some place }
+        requires number { session_named self.old.names session ≡ Some number }
+        ensures turn { IfOk result (λ t. seen_turn t self.new ≡ done_turn self.old session number (plan_of self.old.plans number)) }
+        ensures spool { spool.new ≡ spool.old }
+    {
+        if !self.plans.has(number) {
+            return self.finish(alloc, spool, session, place, number);
+        }
+        let verdict = self.check_query(session, place, number);
+        self.go_on(alloc, spool, session, place, number, verdict)
+    }
+
+    /// What `done S` does with a plan, by the reply to Check.
+    fn go_on<P: Spool>(
+        &mut self,
+        alloc: Global,
+        spool: &mut P,
+        session: Name,
+        place: usize,
+        number: u32,
+        reply: Reply,
+    ) -> Result<Turned, AllocError>
+        requires place { place_named self.old.names session ≡ Some place }
+        requires number { session_named self.old.names session ≡ Some number }
+        ensures turn { IfOk result (λ t. seen_turn t self.new ≡ checked_turn self.old session number reply) }
+        ensures spool { spool.new ≡ spool.old }
+    {
+        match reply {
+            Reply::Go => self.finish(alloc, spool, session, place, number),
+            Reply::MovedOn(_) => {
+                let first = line_text(alloc, session, reply)?;
+                let turned = self.finish(alloc, spool, session, place, number)?;
+                told_first(first, turned)
+            }
+            Reply::GiveWay(_) => {
+                let first = line_text(alloc, session, reply)?;
+                let text = self.way(alloc, session, place, number)?;
+                told_first(first, Turned::Goes(text))
+            }
+            Reply::CapEnded { .. } | Reply::Stopping => {
+                let first = line_text(alloc, session, reply)?;
+                let text = self.end(alloc, session, place, number)?;
+                told_first(first, Turned::Goes(text))
+            }
+            _ => Ok(Turned::Goes(line_text(alloc, session, reply)?)),
+        }
+    }
+
+    /// Ends the query of S, whose plan does not run.
+    fn end(
+        &mut self,
+        alloc: Global,
+        session: Name,
+        place: usize,
+        number: u32,
+    ) -> Result<String, AllocError>
+        requires place { place_named self.old.names session ≡ Some place }
+        requires number { session_named self.old.names session ≡ Some number }
+        ensures { IfOk result (λ text. Goes (string_bytes text) self.new ≡ end_turn self.old session number) }
+    {
+        let reply = self.finish_query(session, place, number);
+        self.forget_released(number, reply);
+        line_text(alloc, session, reply)
+    }
+
+    /// Keeps no plan of a query whose grant was released.
+    fn forget_released(&mut self, number: u32, reply: Reply)
+        ensures { self.new ≡ after_finish self.old number reply }
+    {
+        if let Reply::Released(_) = reply {
+            self.plans.forget(number);
+        }
+    }
+
+    /// Ends the query of S, and runs its plan, if one is kept.
     fn finish<P: Spool>(
         &mut self,
         alloc: Global,
         spool: &mut P,
         session: Name,
         place: usize,
+        number: u32,
     ) -> Result<Turned, AllocError>
-        requires { place_named self.old.names session ≡ Some place }
-        ensures turn { IfOk result (λ t. seen_turn t self.new ≡ session_turn self.old session Done (session_named self.old.names session)) }
+        requires place { place_named self.old.names session ≡ Some place }
+        requires number { session_named self.old.names session ≡ Some number }
+        ensures turn { IfOk result (λ t. seen_turn t self.new ≡ finish_turn self.old session number) }
         ensures spool { spool.new ≡ spool.old }
     {
-        let number = self.number_at(session, place);
         let reply = self.finish_query(session, place, number);
-        self.done(alloc, spool, session, number, reply)
+        self.finished(alloc, spool, session, number, reply)
     }
 
     /// What is printed of a query to which Finish had this reply. Where it ran, its plan runs with the bytes that it had.
-    fn done<P: Spool>(
+    fn finished<P: Spool>(
         &mut self,
         alloc: Global,
         spool: &mut P,
@@ -426,6 +587,7 @@ impl Script {
         let ran = run_plan(alloc, &plan, &self.tables, grant, spool)?;
         Ok(Turned::Answers(Answer {
             session,
+            before: String::new(alloc),
             plan,
             ran,
             released: grant,
@@ -499,6 +661,24 @@ impl Script {
         self.held[place].poll(&mut self.desk, self.moment)
     }
 
+    /// Asks whether the query of the session at a place may run on.
+    fn check_query(&mut self, session: Name, place: usize, number: u32) -> Reply
+        requires place { place_named self.old.names session ≡ Some place }
+        requires number { session_named self.old.names session ≡ Some number }
+        ensures { Makes self.old self.new (Event.Check number) result }
+    {
+        self.held[place].check(&mut self.desk, self.moment)
+    }
+
+    /// Lets the query of the session at a place give way.
+    fn give_way(&mut self, session: Name, place: usize, number: u32) -> Reply
+        requires place { place_named self.old.names session ≡ Some place }
+        requires number { session_named self.old.names session ≡ Some number }
+        ensures { Makes self.old self.new (Event.GiveWay number) result }
+    {
+        self.held[place].give_way(&mut self.desk, self.moment)
+    }
+
     /// Ends the query of the session at a place.
     fn finish_query(&mut self, session: Name, place: usize, number: u32) -> Reply
         requires place { place_named self.old.names session ≡ Some place }
@@ -527,10 +707,10 @@ impl Script {
         }
     }
 
-    /// Makes a machine call of an event by which nothing ends, at the script's moment.
+    /// Makes a machine call, at the script's moment, of an event that leaves all sessions and their queries.
     fn call(&mut self, event: &Event) -> Reply
         requires formed { IsFormed event.now }
-        requires goes_on { ends_nothing event.now ≡ true }
+        requires goes_on { keeps_sessions event.now ≡ true }
         ensures reply { result ≡ (step self.old.machine 0 self.old.moment event.now).reply }
         ensures state { self.new ≡ record self.old { machine = (step self.old.machine 0 self.old.moment event.now).state } }
     {
@@ -569,30 +749,44 @@ fn has_no_place(tables: &Tables, name: Name) -> bool
     tables.has(name) || tables.is_full()
 }
 
+/// A turn that prints this first.
+fn told_first(first: String, turned: Turned) -> Result<Turned, AllocError>
+    ensures { IfOk result (λ t. (s : ScriptState) → seen_turn t s ≡ told_first (string_bytes first) (seen_turn turned s)) }
+{
+    let mut text = first;
+    match turned {
+        Turned::Bad => Ok(Turned::Bad),
+        Turned::Goes(more) => {
+            text.push_str(&more)?;
+            Ok(Turned::Goes(text))
+        }
+        Turned::Answers(answer) => {
+            let Answer {
+                session,
+                before,
+                plan,
+                ran,
+                released,
+            } = answer;
+            text.push_str(&before)?;
+            Ok(Turned::Answers(Answer {
+                session,
+                before: text,
+                plan,
+                ran,
+                released,
+            }))
+        }
+        Turned::Stops(more) => {
+            text.push_str(&more)?;
+            Ok(Turned::Stops(text))
+        }
+    }
+}
+
 /// Prints a refusal, and changes nothing.
 fn refused(alloc: Global, refusal: Refusal) -> Result<Turned, AllocError>
     ensures { IfOk result (λ t. (s : ScriptState) → seen_turn t s ≡ Goes (bare_text (reply.Refused refusal)) s) }
 {
     Ok(Turned::Goes(bare_text(alloc, Reply::Refused(refusal))?))
-}
-
-/// Whether the machine takes a statement. DROP RESOURCE POOL has no place in a script yet.
-fn is_judged(statement: &Statement) -> bool
-    ensures { result ≡ is_judged statement.now }
-{
-    match statement {
-        Statement::CreatePool(..)
-        | Statement::AlterPool(..)
-        | Statement::CreateUser(..)
-        | Statement::AlterUser(..)
-        | Statement::DropUser(_)
-        | Statement::CreateRole(_)
-        | Statement::AlterRole(..)
-        | Statement::DropRole(_)
-        | Statement::GrantUsage(..)
-        | Statement::RevokeUsage(..)
-        | Statement::GrantRole(..)
-        | Statement::RevokeRole(..) => true,
-        Statement::DropPool(_) => false,
-    }
 }

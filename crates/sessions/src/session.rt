@@ -1,10 +1,11 @@
 //! Sessions over a host, and the laws on them.
 
-ghost use Rattle.std.specs.Prelude.{◌≡◌, ◌≢◌, ◌↔◌, ℕ, false, ◌||◌, is_some, IfOk, IfErr, IsErr, OnOk, IfSome};
+ghost use Rattle.std.specs.Prelude.{◌≡◌, ◌≢◌, ◌↔◌, ℕ, true, false, ◌||◌, is_some, IfOk, IfErr, IsErr, OnOk, IfSome};
 ghost use Rattle.std.specs.Option.{ForSome};
 ghost use Rattle.rm_base.specs.declared.entry.Account.{Account};
 ghost use Rattle.rm_base.specs.declared.entry.Answered.{Answered};
 ghost use Rattle.rm_base.specs.declared.event.Event.{Event};
+ghost use Rattle.rm_rules.specs.Grants.{is_refused};
 ghost use Rattle.rm_rules.specs.Replay.{IsFormed};
 ghost use Rattle.sessions.specs.Granted.{Granted};
 ghost use Rattle.sessions.specs.Host.{Known, SeesMore, Called};
@@ -38,7 +39,7 @@ impl Model for Session {
 }
 
 impl Session {
-    ghost use Rattle.sessions.specs.Session.{SeesOpen, SeesQuery, HoldsGrant, CallsOnce, open_reply, close_reply, IsTold, TellsQuery, is_admitted, IfAdmitted, ComesBack};
+    ghost use Rattle.sessions.specs.Session.{SeesOpen, SeesQuery, sees_leaving, HoldsGrant, CallsOnce, asks_way, open_reply, close_reply, IsTold, TellsQuery, is_admitted, is_refusal, IfAdmitted, ComesBack};
 
     /// Opens a session of a user. It is refused with 8 where there is no such user, with 24 where as many sessions are open
     /// as may be, and with 25 where the journal is full.
@@ -111,6 +112,45 @@ impl Session {
         }
     }
 
+    /// Asks whether the session's query may run on with its grant. It is never refused. The query may have moved on to
+    /// another pool; where the reply is to give way, `give_way` is what it asks for.
+    pub fn check<H: Host>(&mut self, host: &mut H, at: Moment, grant: &Grant) -> Reply
+        requires own { HoldsGrant (H.known host.old) self.old.number grant.now }
+        ensures call { CallsOnce (H.known host.old) (H.known host.new) at (Event.Check self.old.number)
+            (λ reply. reply ≡ result) }
+        ensures told { is_refused result ≡ false }
+        ensures grant { HoldsGrant (H.known host.new) self.old.number grant.now }
+        ensures leaving { sees_leaving (H.known host.new) self.old.number ≡ (sees_leaving (H.known host.old) self.old.number || asks_way result) }
+        ensures session { self.new ≡ self.old }
+        ensures open { SeesOpen (H.known host.new) self.old.number }
+    {
+        let event = Event::Check {
+            session: self.number,
+        };
+        host.call(at, &event).reply
+    }
+
+    /// Lets the session's query give its grant back and wait in the pool for which it is to leave. Its run has been stopped,
+    /// and its memory dropped. It is never refused, and the query may be admitted at once, with another grant.
+    pub fn give_way<H: Host>(&mut self, host: &mut H, at: Moment, grant: Grant) -> Submitted
+        requires own { HoldsGrant (H.known host.old) self.old.number grant }
+        requires leaving { sees_leaving (H.known host.old) self.old.number ≡ true }
+        ensures call { CallsOnce (H.known host.old) (H.known host.new) at (Event.GiveWay self.old.number)
+            (IsTold self.old.number result) }
+        ensures told { is_refusal result ≡ false }
+        ensures grant { IfAdmitted result (HoldsGrant (H.known host.new) self.old.number) }
+        ensures session { self.new ≡ record self.old { granted = is_admitted result } }
+        ensures open { SeesOpen (H.known host.new) self.old.number }
+    {
+        let event = Event::GiveWay {
+            session: self.number,
+        };
+        let answered = host.call(at, &event);
+        self.granted = false;
+        let _bytes = grant.spend();
+        self.told(answered.reply)
+    }
+
     /// Ends the session's query and gives its grant back. It is never refused.
     pub fn finish<H: Host>(&mut self, host: &mut H, at: Moment, grant: Grant) -> u64
         requires own { HoldsGrant (H.known host.old) self.old.number grant }
@@ -149,7 +189,7 @@ impl Session {
         }
     }
 
-    /// What the reply to Submit or Poll says.
+    /// What the reply to Submit, Poll or GiveWay says.
     fn told(&mut self, reply: Reply) -> Submitted
         requires { TellsQuery reply }
         ensures told { IsTold self.old.number result reply }
@@ -211,12 +251,14 @@ pub fn sessions_stay_open()
     ensures looks { (old new : Known) (number : ℕ) → SeesMore old new → SeesOpen old number → SeesOpen new number }
 {}
 
-/// A query runs on with its grant, whatever is done at its host and at other seats, until its own seat finishes it.
+/// A query runs on with its grant, whatever is done at its host and at other seats, until its own seat finishes it or lets
+/// it give way.
 pub fn running_queries_go_on()
     ensures calls { (old new : Known) (at : ℕ) (grant : Granted) (event : Event) (answered : Answered)
         → Called old new at event answered
         → IsFormed event
         → event ≢ Event.Finish grant.session
+        → event ≢ Event.GiveWay grant.session
         → SeesRunning old grant
         → SeesRunning new grant }
     ensures looks { (old new : Known) (grant : Granted) → SeesMore old new → SeesRunning old grant → SeesRunning new grant }

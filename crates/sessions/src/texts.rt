@@ -71,7 +71,7 @@ pub fn line_text(alloc: Global, session: Name, reply: Reply) -> Result<String, A
     format!(in alloc; "{session} {reply}\n")
 }
 
-/// The line of a reply to Submit.
+/// The line of a reply to Submit or GiveWay.
 pub fn queued_text(alloc: Global, session: Name, reply: Reply) -> Result<String, AllocError>
     ensures { IfOk result (λ text. string_bytes text ≡ queued_text session reply) }
 {

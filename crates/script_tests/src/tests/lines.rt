@@ -210,7 +210,7 @@ fn lines_do_what_they_say(rt: HostRuntime) -> Result<(), Fail> {
 /// Lines that are bad where session `a` is open and the moment is 7, with `|` between them.
 static BAD: &str = "\
 at|at |at 6|at 7 |at 7 7|at a 7|at a|at +7|at -7|at 7.0|at 7ms|at seven|at 0000000000000007|at 1000000000000000| at 7|\
-at\t7|At 7|at7| sql x|sql|sqlx|Sql x|sql\tx|sql DROP RESOURCE POOL etl|\
+at\t7|At 7|at7| sql x|sql|sqlx|Sql x|sql\tx|\
 open b|open b dbadmin etl x|Open b dbadmin|open b dbadmin |open b dbadmin etl |open\tb dbadmin|open b\tdbadmin|\
 open 1b dbadmin|open b-c dbadmin|open min dbadmin|open b Select|open b dbadmin select|\
 open b dbadmin 1etl|open \u{e4} dbadmin|open a dbadmin|open A dbadmin|open a dbadmin etl| open b dbadmin|set a pool|\

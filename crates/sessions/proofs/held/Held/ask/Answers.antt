@@ -20,4 +20,4 @@ returns-clause-held c =
     let call = c.submit-told.ensures.call in
     let asked = asked-held (desk_known c.args.desk.now) new c.args.at (Submit h.session.number c.args.floor) call.0 h told call.1 tt (λ same. cc) (λ same. cc) c.submit-told.ensures.grant c.requires in
     subst (λ (g : Held). IsHeld new g) (sym c.keep.ensures)
-    (subst (λ (s : SessionState). let g : Held = record { name = h.name; session = s; grant = grant_after told h.grant } in IsHeld new g) (sym c.submit-told.ensures.session) asked)
+    (subst (λ (s : SessionState). let g : Held = record { name = h.name; session = s; grant = grant_after told h.grant; leaving = h.leaving } in IsHeld new g) (sym c.submit-told.ensures.session) asked)

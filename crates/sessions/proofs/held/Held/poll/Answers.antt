@@ -24,5 +24,5 @@ returns-clause-held c =
     let call = c.poll-told.ensures.call in
     let polled = polled-held (desk_known c.args.desk.now) new c.args.at (Poll h.session.number) call.0 h told call.1 tt (λ same. cc) (λ same. cc) c.poll-told.ensures.grant c.requires in
     subst (λ (g : Held). IsHeld new g) (sym c.keep.ensures)
-    (subst (λ (s : SessionState). let g : Held = record { name = h.name; session = s; grant = grant_after told c.take-grant.new.self } in IsHeld new g) (sym c.poll-told.ensures.session)
-    (subst (λ (o : Option Granted). let g : Held = record { name = h.name; session = record h.session { granted = is_admitted told }; grant = grant_after told o } in IsHeld new g) (sym c.take-grant.ensures.after) polled))
+    (subst (λ (s : SessionState). let g : Held = record { name = h.name; session = s; grant = grant_after told c.take-grant.new.self; leaving = h.leaving } in IsHeld new g) (sym c.poll-told.ensures.session)
+    (subst (λ (o : Option Granted). let g : Held = record { name = h.name; session = record h.session { granted = is_admitted told }; grant = grant_after told o; leaving = h.leaving } in IsHeld new g) (sym c.take-grant.ensures.after) polled))

@@ -1,4 +1,4 @@
-use Rattle.std.proofs.Common.{List, [], ◌∷◌, ◌++◌, None, refl, ap, sym, ◌∙◌, subst}
+use Rattle.std.proofs.Common.{false, List, [], ◌∷◌, ◌++◌, None, refl, ap, sym, ◌∙◌, subst}
 use Rattle.rm_base.specs.declared.event.Event.TheVariants as event
 use Rattle.rm_base.specs.declared.reply.Reply.TheVariants as reply
 use Rattle.rm_rules.specs.Step.{step}
@@ -27,11 +27,11 @@ invariant_of-self-in-Ok c =
     let old = desk_known c.self.inside.desk in
     let new = desk_known c.open.new.host in
     let number = c.in-Ok.opened.number in
-    let g : Held = record { name = c.args.session; session = c.in-Ok.opened; grant = None } in
+    let g : Held = record { name = c.args.session; session = c.in-Ok.opened; grant = None; leaving = false } in
     record {
       plans = c.self.invariant.plans;
       held = subst (AreHeld new) (sym c.in_ok-push-in-Ok.ensures.items)
-          (opened-held old new c.self.inside.moment c.args.user call.0 c.self.inside.held.items g call.1 call.2 c.in-Ok.ensures.open c.in-Ok.ensures.free refl c.self.invariant.held);
+          (opened-held old new c.self.inside.moment c.args.user call.0 c.self.inside.held.items g call.1 call.2 c.in-Ok.ensures.open c.in-Ok.ensures.free refl refl c.self.invariant.held);
     }
 
 pub invariant_of-self-in-Err : goal.invariant_of-self-in-Err
@@ -49,7 +49,7 @@ pub returns-in_ok-push-in-Ok-clause-state : goal.returns-in_ok-push-in-Ok-clause
 returns-in_ok-push-in-Ok-clause-state c =
     let call = c.in-Ok.ensures.call in
     let hs = c.self.inside.held.items in
-    let g : Held = record { name = c.args.session; session = c.in-Ok.opened; grant = None } in
+    let g : Held = record { name = c.args.session; session = c.in-Ok.opened; grant = None; leaving = false } in
     let at = c.self.inside.moment in
     let more : (l : List NamedSession) → ScriptState → ScriptState = λ l t. record t { names = t.names ++ l } in
     ap (λ (l : List NamedSession). let t : ScriptState = record { machine = state_of (desk_known c.open.new.host); names = l; plans = c.self.inside.plans; tables = c.self.inside.tables; moment = at } in t)

@@ -34,7 +34,7 @@ returns-in-Some-clause-back g c =
 pub returns-in-Some-clause-grant : goal.returns-in-Some-clause-grant
 returns-in-Some-clause-grant g c =
     let own = c.requires.own c.in-Some.grant c.in-Some.is in
-    (own.0, running-called _ _ c.args.at c.in-Some.grant _ c.call-answered.result c.call-answered.ensures tt (λ e. cc) own.1)
+    (own.0, running-called _ _ c.args.at c.in-Some.grant _ c.call-answered.result c.call-answered.ensures tt (λ e. cc) (λ e. cc) own.1)
 
 pub returns-in-None-clause-grant : goal.returns-in-None-clause-grant
 returns-in-None-clause-grant g c =

@@ -1,7 +1,7 @@
 use Rattle.std.proofs.Common.{sym, ◌∙◌, subst}
 use Rattle.sessions.specs.Plans.{AreRunnable}
 use Rattle.sessions.proofs.PlanLemmas.{kept-runs, run-without}
-use Rattle.sessions.proofs.script.Script.done.Goals as goal
+use Rattle.sessions.proofs.script.Script.finished.Goals as goal
 
 pub run_plan-requires : goal.run_plan-requires
 run_plan-requires g c =

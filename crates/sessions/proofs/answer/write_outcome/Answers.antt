@@ -11,7 +11,7 @@ use Rattle.sessions.specs.Transfers.{ExplainsOutput}
 use Rattle.sessions.specs.World.{seen_sink}
 use Rattle.sessions.proofs.AnswerLemmas.{answer-parts}
 use Rattle.sessions.proofs.RunLemmas.{explains-longer, explains-after, wrote_nothing, if_err-weaker}
-use Rattle.sessions.proofs.answer.write_answer.Goals as goal
+use Rattle.sessions.proofs.answer.write_outcome.Goals as goal
 
 pub returns-in_err-head-clause-err : goal.returns-in_err-head-clause-err
 returns-in_err-head-clause-err g c =
