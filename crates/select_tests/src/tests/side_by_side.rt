@@ -65,11 +65,11 @@ fn equal_keys_share_a_hash(rt: HostRuntime) -> Result<(), Fail> {
     let third = row_of(rt.alloc(), "-2 3")?;
     let whole = row_of(rt.alloc(), "1 'ab NULL -2 3")?;
     let tuple = Tuple::one(&first).with(&second).with(&third);
-    assert_eq!(rt; key_hash(&[0], tuple), 2_959_187_598_757_911_295);
-    assert_eq!(rt; key_hash(&[3, 1, 2], tuple), 8_772_372_819_021_141_599);
+    assert_eq!(rt; key_hash(&[0], tuple), 15_041_795_452_915_637_202);
+    assert_eq!(rt; key_hash(&[3, 1, 2], tuple), 9_835_206_630_128_938_588);
     assert_eq!(rt;
         key_hash(&[3, 1, 2], Tuple::one(&whole)),
-        8_772_372_819_021_141_599
+        9_835_206_630_128_938_588
     );
     Ok(())
 }
