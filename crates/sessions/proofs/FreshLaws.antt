@@ -1,6 +1,5 @@
 -- The number of a session that is opened is no other open session's.
 use Rattle.std.proofs.Common.{◌≡◌, ◌≢◌, ℕ, ◌+◌, ◌≤◌, false, ◌||◌, leb, List, [], ◌∷◌, ◌++◌, Option, Some, None, refl, sym, ap, ◌∙◌, arith}
-use Rattle.std.specs.Option.{is_some}
 use Rattle.std.proofs.lemmas.Bool.{leb-true, eqb-true}
 use Rattle.rm_base.specs.declared.entry.Answered.{Answered}
 use Rattle.rm_base.specs.declared.event.Event.{Event}
@@ -77,7 +76,7 @@ opened-leaving s seat at m user healthy answer =
     let t = found_at s at in
     let facts = found-facts s at healthy in
     leaving-spared s seat at (Open user) m (λ k x of found. absurd (cc))
-    ∙ ap (λ l. is_some (way_of l m)) (sym (less-found s at).running)
+    ∙ ap (λ l. way_of l m) (sym (less-found s at).running)
     ∙ unopened-leaving t m facts.in_phase (next-absent t m facts.opened (step-number s seat at m user answer))
 
 leaving-fresh : (old new : Known) (at m : ℕ) (user : Name) (answered : Answered) → Called old new at (Open user) answered → answered.reply ≡ reply.Opened m → sees_leaving new m ≡ false

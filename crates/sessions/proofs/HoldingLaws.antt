@@ -4,6 +4,7 @@ use Rattle.std.specs.Prelude.{is_some}
 use Rattle.rm_base.specs.declared.entry.Answered.{Answered}
 use Rattle.rm_base.specs.declared.event.Event.{Event}
 use Rattle.rm_base.specs.declared.event.Event.TheVariants.{Check, GiveWay, Close}
+use Rattle.rm_base.specs.declared.name.Name.{Name}
 use Rattle.rm_base.specs.declared.refusal.Refusal.{Refusal}
 use Rattle.rm_base.specs.declared.reply.Reply.{Reply}
 use Rattle.rm_base.specs.declared.reply.Reply.TheVariants as reply
@@ -124,10 +125,13 @@ pub gave-held : (old new : Known) (at : ℕ) (answered : Answered) (h : Held) (t
 gave-held old new at answered h told called holds is = turn told holds where
   n : ℕ
   n = h.session.number
+
   opened : SeesOpen new n
   opened = open-called old new at n (GiveWay n) answered called tt (λ same. cc) is.opened
+
   leaves : false ≡ sees_leaving new n
   leaves = sym (way-called old new at n answered called is.opened)
+
   turn : (told : Submitted) → IfAdmitted told (HoldsGrant new n)
       → let g : Held = record { name = h.name; session = record h.session { granted = is_admitted told }; grant = grant_after told None; leaving = false } in IsHeld new g
   turn (Admitted grant account) holds = with-grant new (record { name = h.name; session = record h.session { granted = true }; grant = Some grant; leaving = false }) grant refl refl opened holds leaves
@@ -159,3 +163,14 @@ stood-turn old new at answered h true called stands none is = record {
 pub stood-held : (old new : Known) (at : ℕ) (answered : Answered) (h : Held) → Called old new at (GiveWay h.session.number) answered → given_up h.leaving h.grant ≡ None → IsHeld old h
     → let g : Held = record { name = h.name; session = h.session; grant = held_back h.leaving h.grant; leaving = false } in IsHeld new g
 stood-held old new at answered h called none is = stood-turn old new at answered h h.leaving called refl none is
+
+-- a check that asks for no giving way leaves it as it was
+pub asks-none : (r : Reply) → ((pool : Name) → r ≡ reply.GiveWay pool → ⊥) → asks_way r ≡ false
+asks-none (reply.GiveWay pool) other = absurd (other pool refl)
+asks-none _ other = refl
+
+pub turns-none : (b : Bool) (r : Reply) → ((pool : Name) → r ≡ reply.GiveWay pool → ⊥) → b ≡ (b || asks_way r)
+turns-none b r other = sym (ap (λ a. b || a) (asks-none r other) ∙ or_false b)
+
+pub turns-way : (b : Bool) (r : Reply) (pool : Name) → r ≡ reply.GiveWay pool → true ≡ (b || asks_way r)
+turns-way b r pool is = sym (ap (λ a. b || asks_way a) is ∙ or_true b)

@@ -1,6 +1,6 @@
 -- Whether a session's query is to give way: what leaves that as it is, and what a check, a Finish and a GiveWay make of it.
 use Rattle.std.proofs.Common.{◌≡◌, ◌≢◌, ℕ, Bool, true, false, ◌||◌, not, cond, eqb, List, [], ◌∷◌, ◌++◌, Option, Some, None, Result, Ok, Err, refl, sym, ap, ◌∙◌, subst, arith, count_by}
-use Rattle.std.specs.Prelude.{option_map, option_and_then}
+use Rattle.std.specs.Prelude.{option_map, option_and_then, map}
 use Rattle.std.specs.Option.{is_some}
 use Rattle.std.proofs.lemmas.Bool.{eqb-true, false≢true}
 use Rattle.rm_base.specs.declared.definitions.Definitions.{Definitions}
@@ -21,6 +21,7 @@ use Rattle.rm_rules.specs.declared.verdict.Verdict.{Verdict}
 use Rattle.rm_rules.specs.declared.verdict.Verdict.TheVariants as verdict
 use Rattle.rm_rules.specs.State.{State, session_called, session_of, runner_of, without_runner, phase_of, is_running}
 use Rattle.rm_rules.specs.Moving.{moved, leaving_for, stopping, with_runner_as, gave_way}
+use Rattle.rm_rules.specs.DropPool.{named_in_place, runner_beside}
 use Rattle.rm_rules.specs.Admission.{started}
 use Rattle.rm_rules.specs.Settle.{settled}
 use Rattle.rm_rules.specs.Refusals.{refused_if, unless_refused}
@@ -35,7 +36,7 @@ use Rattle.rm_rules.proofs.Taken.{found_passes, or_right_false}
 use Rattle.rm_rules.proofs.Phases.{differ, phase_in, one_if-most, phase_of-found}
 use Rattle.rm_rules.proofs.Settling.{settled-keeps}
 use Rattle.rm_rules.proofs.Grants.{less-found}
-use Rattle.rm_rules.proofs.Changing.{IsTried, stays, changes, refuses, judges, IsChange, defines, opens, chooses, caps, submits, collects, moves_on, asks, gives_way, finishes, withdraws, stops, closes, session_of-is, tried-is}
+use Rattle.rm_rules.proofs.Changing.{IsTried, stays, changes, refuses, judges, IsChange, defines, drops, opens, chooses, caps, submits, collects, moves_on, asks, gives_way, finishes, withdraws, stops, closes, session_of-is, tried-is}
 use Rattle.rm_rules.proofs.Stepping.{found-facts, outcome-turn}
 use Rattle.rm_rules.proofs.Verdicts.{verdict-free}
 use Rattle.rm_rules.proofs.Laws.{IsKeptByOthers}
@@ -43,11 +44,15 @@ use Rattle.sessions.specs.Session.{IsOpen, is_leaving, asks_way}
 use Rattle.sessions.proofs.OpenLaws.{there-of, open-there, there-found, open-others}
 use Rattle.sessions.proofs.ToldLaws.{done_for}
 
--- the pool for which the session's running query is to leave
-abbrev pub way_in : Option Runner → Option Name
-way_in o = option_and_then (λ r. r.leaving) o
+-- the pool for which a running query is to leave
+abbrev pub leaving_in : Option Runner → Option Name
+leaving_in o = option_and_then (λ r. r.leaving) o
 
-abbrev pub way_of : List Runner → ℕ → Option Name
+-- whether the session's running query is to leave
+abbrev way_in : Option Runner → Bool
+way_in o = is_some (leaving_in o)
+
+abbrev pub way_of : List Runner → ℕ → Bool
 way_of running n = way_in (runner_of running n)
 
 abbrev runs_in : ℕ → Runner → Bool
@@ -62,8 +67,8 @@ push-turn : (x : Runner) (b : Bool) (o p : Option Runner) → way_in o ≡ way_i
 push-turn x true o p same = refl
 push-turn x false o p same = same
 
-last-turn : (r : Runner) (b : Bool) → (let none : Option Name = None in r.leaving ≡ none) → way_in (cond b (Some r) None) ≡ None
-last-turn r true stays_there = stays_there
+last-turn : (r : Runner) (b : Bool) → (let none : Option Name = None in r.leaving ≡ none) → way_in (cond b (Some r) None) ≡ false
+last-turn r true stays_there = ap is_some stays_there
 last-turn r false stays_there = refl
 
 way-push : (rs : List Runner) (r : Runner) (n : ℕ) → (let none : Option Name = None in r.leaving ≡ none) → way_of (rs ++ r ∷ []) n ≡ way_of rs n
@@ -89,6 +94,19 @@ stop-turn : (rs : List Runner) (m n : ℕ) (b : Bool) → eqb m n ≡ b → way_
 stop-turn rs m n true same =
     ap (λ k. way_of (with_runner_as stopping k rs) n) (eqb-true m n same) ∙ ap way_in (found-changed (runs_in n) stopping rs (λ x. refl)) ∙ stopping-way (runner_of rs n)
 stop-turn rs m n false apart = way-other stopping rs m n (λ r. refl) apart
+
+-- a dropped pool's queries leave for GENERAL
+beside-leaving : (pool : Name) (o : Option Name) → is_some (named_in_place pool o) ≡ is_some o
+beside-leaving pool None = refl
+beside-leaving pool (Some name) = refl
+
+drop-turn : (pool : Name) (x : Runner) (b : Bool) (o p : Option Runner) → way_in o ≡ way_in p → way_in (cond b (Some (runner_beside pool x)) o) ≡ way_in (cond b (Some x) p)
+drop-turn pool x true o p same = beside-leaving pool x.leaving
+drop-turn pool x false o p same = same
+
+way-dropped : (pool : Name) (rs : List Runner) (n : ℕ) → way_of (map (runner_beside pool) rs) n ≡ way_of rs n
+way-dropped pool [] n = refl
+way-dropped pool (x ∷ xs) n = drop-turn pool x (eqb x.session n) (runner_of (map (runner_beside pool) xs) n) (runner_of xs n) (way-dropped pool xs n)
 
 -- nor do deadlines, settling and what is answered
 way-settled : (s : State) (n : ℕ) → way_of (settled s).running n ≡ way_of s.running n
@@ -140,7 +158,8 @@ spared-turn : (t : State) (seat m n k : ℕ) (x : Session) → session_of t seat
 spared-turn t seat m n k x found is apart = ap (λ j. eqb j n) (is ∙ (session_of-is t seat m x found).number) ∙ apart
 
 way-changed : (t : State) (seat : ℕ) (event : Event) (c : Change) (n : ℕ) → IsChange t seat event c → IsSpared t seat event n → way_of c.state.running n ≡ way_of t.running n
-way-changed t seat _ _ n (defines statement new accepts) spared = refl
+way-changed t seat _ _ n (defines statement new none accepts) spared = refl
+way-changed t seat _ _ n (drops pool new accepts) spared = way-dropped pool t.running n
 way-changed t seat _ _ n (opens user may) spared = refl
 way-changed t seat _ _ n (chooses m pool x found may other) spared = refl
 way-changed t seat _ _ n (caps m cap x found room other) spared = refl
@@ -167,7 +186,7 @@ way-tried t seat event _ n (changes c is loud) spared = way-changed t seat event
 pub leaving-spared : (s : State) (seat at : ℕ) (event : Event) (n : ℕ) → IsSpared (found_at s at) seat event n → is_leaving (step s seat at event).state n ≡ is_leaving s n
 leaving-spared s seat at event n spared =
     let t = found_at s at in
-    ap is_some (way-step s seat at event n ∙ way-tried t seat event (attempted t seat event) n (tried-is t seat event) spared ∙ ap (λ l. way_of l n) (less-found s at).running)
+    way-step s seat at event n ∙ way-tried t seat event (attempted t seat event) n (tried-is t seat event) spared ∙ ap (λ l. way_of l n) (less-found s at).running
 
 -- so does each of another seat
 pub leaving-others : (seat n : ℕ) (b : Bool) → IsKeptByOthers seat (λ s. IsOpen s seat n × (is_leaving s n ≡ b))
@@ -248,33 +267,33 @@ or_false true = refl
 or_false false = refl
 
 -- once a session's query is taken out, none of it is left
-none-runs : (t : State) (m n : ℕ) → AreInPhase t.sessions t.waiting t.running → m ≡ n → way_of (without_runner m t.running) n ≡ None
+none-runs : (t : State) (m n : ℕ) → AreInPhase t.sessions t.waiting t.running → m ≡ n → way_of (without_runner m t.running) n ≡ false
 none-runs t m n h same =
     ap (λ k. way_of (without_runner k t.running) n) same
     ∙ ap way_in (none-left (runs_in n) t.running (omega (arith, h.runs n, one_if-most (is_running (phase_of t.sessions n)))))
 
 -- a check tells a query to give way, or it was told so before
 check-tried : (t u : State) (seat n : ℕ) (c : Change) → AreInPhase t.sessions t.waiting t.running → IsTried t seat (Check n) c
-    → is_some (way_of c.state.running n) ≡ (is_some (way_of t.running n) || asks_way (reply_of u c.answer))
-check-tried t u seat n _ h (stays _ (refuses _ r is)) = or_false (is_some (way_of t.running n))
+    → way_of c.state.running n ≡ (way_of t.running n || asks_way (reply_of u c.answer))
+check-tried t u seat n _ h (stays _ (refuses _ r is)) = or_false (way_of t.running n)
 check-tried t u seat n _ h (stays _ (judges _ x r answer is says)) =
     let runs : runner_of t.running n ≡ Some r = ap (runner_of t.running) (sym (session_of-is t seat n x is.found).number) ∙ is.runs in
-    subst (λ (o : Option Runner). is_some (way_in o) ≡ (is_some (way_in o) || asks_way answer)) (sym runs)
+    subst (λ (o : Option Runner). way_in o ≡ (way_in o || asks_way answer)) (sym runs)
     (says-way t.definitions r x.cap_ms (running_time r t.clock) answer is.comes_to)
 check-tried t u seat n _ h (changes _ (moves_on _ x r pool is taken) loud) =
     let number = (session_of-is t seat n x is.found).number in
     let free = (verdict-free t.definitions r x.cap_ms (running_time r t.clock) pool is.comes_to).1 in
-    let was : way_of t.running n ≡ None = ap (way_of t.running) (sym number) ∙ ap way_in is.runs ∙ free in
-    let now : way_of (without_runner r.session t.running ++ moved t.clock pool r ∷ []) n ≡ None =
+    let was : way_of t.running n ≡ false = ap (way_of t.running) (sym number) ∙ ap way_in is.runs ∙ ap is_some free in
+    let now : way_of (without_runner r.session t.running ++ moved t.clock pool r ∷ []) n ≡ false =
     way-push (without_runner r.session t.running) (moved t.clock pool r) n free ∙ none-runs t r.session n h (runner-session t.running x.number r is.runs ∙ number) in
-    ap is_some now ∙ sym (ap (λ (o : Option Name). is_some o || false) was)
+    now ∙ sym (ap (λ b. b || false) was)
 check-tried t u seat n _ h (changes _ (asks _ x r pool is) loud) =
     let number = (session_of-is t seat n x is.found).number in
     let runs : runner_of t.running n ≡ Some r = ap (runner_of t.running) (sym number) ∙ is.runs in
-    let now : way_of (with_runner_as (leaving_for pool) r.session t.running) n ≡ Some pool =
+    let now : way_of (with_runner_as (leaving_for pool) r.session t.running) n ≡ true =
     ap (λ k. way_of (with_runner_as (leaving_for pool) k t.running) n) (runner-session t.running n r runs)
     ∙ ap way_in (found-changed (runs_in n) (leaving_for pool) t.running (λ z. refl) ∙ ap (option_map (leaving_for pool)) runs) in
-    ap is_some now ∙ or_true (is_some (way_of t.running n))
+    now ∙ or_true (way_of t.running n)
 
 pub check-leaving : (s : State) (seat at n : ℕ) → IsHealthy s
     → is_leaving (step s seat at (Check n)).state n ≡ (is_leaving s n || asks_way (step s seat at (Check n)).reply)
@@ -283,15 +302,15 @@ check-leaving s seat at n healthy =
     let event : Event = Check n in
     let c = attempted t seat event in
     let tried = λ (u : State). check-tried t u seat n c (found-facts s at healthy).in_phase (tried-is t seat event) in
-    let was = ap (λ l. is_some (way_of l n)) (less-found s at).running in
-    ap is_some (way-step s seat at event n)
-    ∙ outcome-turn (λ o. is_some (way_of c.state.running n) ≡ (is_leaving s n || asks_way o.reply)) s seat event c (has_due s at || c.changed)
+    let was = ap (λ l. way_of l n) (less-found s at).running in
+    way-step s seat at event n
+    ∙ outcome-turn (λ o. way_of c.state.running n ≡ (is_leaving s n || asks_way o.reply)) s seat event c (has_due s at || c.changed)
     (λ settles. tried (settled c.state) ∙ ap (λ b. b || asks_way (reply_of (settled c.state) c.answer)) was)
     (λ still. tried c.state ∙ ap (λ b. b || asks_way (reply_of c.state c.answer)) was)
 
 -- a session of which no query runs has none that is to give way
-resting-way : (t : State) (n : ℕ) → AreInPhase t.sessions t.waiting t.running → is_running (phase_of t.sessions n) ≡ false → is_some (way_of t.running n) ≡ false
-resting-way t n h rests = ap (λ o. is_some (way_in o)) (none-counted (runs_in n) t.running (h.runs n ∙ ap one_if rests))
+resting-way : (t : State) (n : ℕ) → AreInPhase t.sessions t.waiting t.running → is_running (phase_of t.sessions n) ≡ false → way_of t.running n ≡ false
+resting-way t n h rests = ap way_in (none-counted (runs_in n) t.running (h.runs n ∙ ap one_if rests))
 
 pub unopened-leaving : (s : State) (n : ℕ) → AreInPhase s.sessions s.waiting s.running → session_called s.sessions n ≡ None → is_leaving s n ≡ false
 unopened-leaving s n h absent = resting-way s n h (ap is_running (ap phase_in absent))
@@ -305,13 +324,13 @@ finish-refused t seat n x r true found is refused =
     absurd (let both : Err r ≡ Ok (finished t x) = sym refused ∙ done in cc)
 
 finish-tried : (t : State) (seat n : ℕ) (x : Session) (c : Change) → AreInPhase t.sessions t.waiting t.running → session_of t seat n ≡ Some x → IsTried t seat (Finish n) c
-    → is_some (way_of c.state.running n) ≡ false
+    → way_of c.state.running n ≡ false
 finish-tried t seat n x _ h found (stays _ (refuses _ r is)) =
     resting-way t n h (ap is_running (phase_of-found n t.sessions x (session_of-is t seat n x found).called) ∙ finish-refused t seat n x r (is_running x.phase) found refl is)
-finish-tried t seat n x _ h found (changes _ (finishes _ y own runs) loud) = ap is_some (none-runs t y.number n h (session_of-is t seat n y own).number)
+finish-tried t seat n x _ h found (changes _ (finishes _ y own runs) loud) = none-runs t y.number n h (session_of-is t seat n y own).number
 
 -- nor after it gave way, or was refused to
-way-refused : (t : State) (seat n : ℕ) (x : Session) (r : Refusal) (o : Option Runner) (p : Option Name) → session_of t seat n ≡ Some x → runner_of t.running x.number ≡ o → way_in o ≡ p
+way-refused : (t : State) (seat n : ℕ) (x : Session) (r : Refusal) (o : Option Runner) (p : Option Name) → session_of t seat n ≡ Some x → runner_of t.running x.number ≡ o → leaving_in o ≡ p
     → change t seat (GiveWay n) ≡ Err r → is_some p ≡ false
 way-refused t seat n x r o None found runs is refused = refl
 way-refused t seat n x r None (Some pool) found runs is refused = absurd (cc)
@@ -321,20 +340,20 @@ way-refused t seat n x r (Some z) (Some pool) found runs is refused =
     absurd (let both : Err r ≡ Ok (changing (gave_way t z pool) (Collects z.session)) = sym refused ∙ done in cc)
 
 way-tried_own : (t : State) (seat n : ℕ) (x : Session) (c : Change) → AreInPhase t.sessions t.waiting t.running → session_of t seat n ≡ Some x → IsTried t seat (GiveWay n) c
-    → is_some (way_of c.state.running n) ≡ false
+    → way_of c.state.running n ≡ false
 way-tried_own t seat n x _ h found (stays _ (refuses _ r is)) =
-    ap (λ k. is_some (way_of t.running k)) (sym (session_of-is t seat n x found).number)
-    ∙ way-refused t seat n x r (runner_of t.running x.number) (way_of t.running x.number) found refl refl is
+    ap (way_of t.running) (sym (session_of-is t seat n x found).number)
+    ∙ way-refused t seat n x r (runner_of t.running x.number) (leaving_in (runner_of t.running x.number)) found refl refl is
 way-tried_own t seat n x _ h found (changes _ (gives_way _ y r pool own runs leaves) loud) =
-    ap is_some (none-runs t r.session n h (runner-session t.running y.number r runs ∙ (session_of-is t seat n y own).number))
+    none-runs t r.session n h (runner-session t.running y.number r runs ∙ (session_of-is t seat n y own).number)
 
 own-leaving : (s : State) (seat at n : ℕ) (event : Event) → IsHealthy s → IsOpen s seat n
-    → ((t : State) (x : Session) (c : Change) → AreInPhase t.sessions t.waiting t.running → session_of t seat n ≡ Some x → IsTried t seat event c → is_some (way_of c.state.running n) ≡ false)
+    → ((t : State) (x : Session) (c : Change) → AreInPhase t.sessions t.waiting t.running → session_of t seat n ≡ Some x → IsTried t seat event c → way_of c.state.running n ≡ false)
     → is_leaving (step s seat at event).state n ≡ false
 own-leaving s seat at n event healthy opened ends =
     let t = found_at s at in
     let there = there-of t seat n (there-found n seat s at (open-there s seat n opened)) in
-    ap is_some (way-step s seat at event n) ∙ ends t there.0 (attempted t seat event) (found-facts s at healthy).in_phase there.1 (tried-is t seat event)
+    way-step s seat at event n ∙ ends t there.0 (attempted t seat event) (found-facts s at healthy).in_phase there.1 (tried-is t seat event)
 
 pub finish-leaving : (s : State) (seat at n : ℕ) → IsHealthy s → IsOpen s seat n → is_leaving (step s seat at (Finish n)).state n ≡ false
 finish-leaving s seat at n healthy opened = own-leaving s seat at n (Finish n) healthy opened (λ t x c h found is. finish-tried t seat n x c h found is)

@@ -21,7 +21,7 @@ use Rattle.rm_rules.specs.Healthy.{IsHealthy}
 use Rattle.rm_rules.proofs.Changed.{found-changed, other-changed}
 use Rattle.rm_rules.proofs.Phases.{has_number, phased, differ, called-with_same, called-with_other}
 use Rattle.rm_rules.proofs.Settling.{due-keeps, settled-keeps}
-use Rattle.rm_rules.proofs.Changing.{IsTried, stays, changes, refuses, repeats, caps_again, judges, stops_again, tells, defines, opens, chooses, caps, submits, collects, moves_on, asks, gives_way, finishes, withdraws, stops, closes, session_of-is, tried-is}
+use Rattle.rm_rules.proofs.Changing.{IsTried, stays, changes, refuses, repeats, caps_again, judges, stops_again, tells, defines, drops, opens, chooses, caps, submits, collects, moves_on, asks, gives_way, finishes, withdraws, stops, closes, session_of-is, tried-is}
 use Rattle.rm_rules.proofs.Foreign.{foreign-step}
 use Rattle.rm_rules.proofs.Stepping.{outcome-turn}
 use Rattle.rm_rules.proofs.Laws.{IsKeptByOthers}
@@ -100,7 +100,8 @@ tried-there s seat _ _ n (stays _ (caps_again m cap x found same)) of other h = 
 tried-there s seat _ _ n (stays _ (judges m x r answer is says)) of other h = there-settled n seat s h
 tried-there s seat _ _ n (stays _ (stops_again by target x y r may runs already)) of other h = there-settled n seat s h
 tried-there s seat _ _ n (stays _ (tells m x found active)) of other h = there-settled n seat s h
-tried-there s seat _ _ n (changes _ (defines statement new accepts) loud) of other h = absurd (cc)
+tried-there s seat _ _ n (changes _ (defines statement new none accepts) loud) of other h = absurd (cc)
+tried-there s seat _ _ n (changes _ (drops pool new accepts) loud) of other h = absurd (cc)
 tried-there s seat _ _ n (changes _ (opens user may) loud) of other h = absurd (cc)
 tried-there s seat _ c n (changes _ (chooses m pool x found may differs) loud) of other h =
     there-settled n seat c.state (there-choice n seat x.number pool s.sessions h)

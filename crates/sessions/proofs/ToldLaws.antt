@@ -23,7 +23,7 @@ use Rattle.rm_rules.specs.Step.{entered, has_due, found_at, attempted, step}
 use Rattle.rm_rules.specs.Grants.{Run, run_of, run_by}
 use Rattle.rm_rules.specs.Healthy.{AreInPhase, IsHealthy}
 use Rattle.rm_rules.proofs.Grants.{less-found}
-use Rattle.rm_rules.proofs.Changing.{IsTried, stays, changes, refuses, repeats, caps_again, judges, stops_again, tells, defines, opens, chooses, caps, submits, collects, moves_on, asks, gives_way, finishes, withdraws, stops, closes, session_of-is, tried-is}
+use Rattle.rm_rules.proofs.Changing.{IsTried, stays, changes, refuses, repeats, caps_again, judges, stops_again, tells, defines, drops, opens, chooses, caps, submits, collects, moves_on, asks, gives_way, finishes, withdraws, stops, closes, session_of-is, tried-is}
 use Rattle.rm_rules.proofs.Stepping.{found-facts, outcome-turn}
 use Rattle.rm_rules.proofs.Laws.{healthy-step}
 use Rattle.rm_rules.proofs.Runs.{run-is, run-found, runs-open, owned-opened, owned-found_at, runs-on}
@@ -72,7 +72,8 @@ tried-tells s u seat _ _ (stays _ (caps_again n cap x found same)) for = absurd 
 tried-tells s u seat _ _ (stays _ (judges n x r answer is says)) for = absurd (false≢true for)
 tried-tells s u seat _ _ (stays _ (stops_again by target x y r may runs already)) for = absurd (false≢true for)
 tried-tells s u seat _ _ (stays _ (tells n x found active)) for = session-tells u x.number (session_called u.sessions x.number)
-tried-tells s u seat _ _ (changes _ (defines statement new accepts) loud) for = absurd (false≢true for)
+tried-tells s u seat _ _ (changes _ (defines statement new none accepts) loud) for = absurd (false≢true for)
+tried-tells s u seat _ _ (changes _ (drops pool new accepts) loud) for = absurd (false≢true for)
 tried-tells s u seat _ _ (changes _ (opens user may) loud) for = absurd (false≢true for)
 tried-tells s u seat _ _ (changes _ (chooses n pool x found may differs) loud) for = absurd (false≢true for)
 tried-tells s u seat _ _ (changes _ (caps n cap x found room differs) loud) for = absurd (false≢true for)

@@ -38,7 +38,7 @@ use Rattle.sessions.specs.declared.submitted.Submitted.TheVariants.{Admitted, Wa
 use Rattle.sessions.specs.Session.{IsTold, is_refusal, is_leaving}
 use Rattle.sessions.proofs.OpenLaws.{some-of}
 use Rattle.sessions.proofs.ToldLaws.{done_for, running-phase, poll-quiet}
-use Rattle.sessions.proofs.LeavingLaws.{way_in, running_for, runner-session}
+use Rattle.sessions.proofs.LeavingLaws.{leaving_in, running_for, runner-session}
 
 -- as an event finds the session: it is open, and its query runs
 record RunsThere (t : State) (seat n : ℕ) : Type 0 where
@@ -164,8 +164,8 @@ way-answers s seat at n run healthy is leaves =
     let t = found_at s at in
     let h = runs-there s seat at n run healthy is in
     let number = (session_of-is t seat n h.session h.found).number in
-    let gone = some-of (way_in (runner_of s.running n)) leaves in
-    let leaving : h.runner.leaving ≡ Some gone.0 = ap way_in (sym h.runs ∙ ap (runner_of t.running) number ∙ ap (λ l. runner_of l n) (less-found s at).running) ∙ gone.1 in
+    let gone = some-of (leaving_in (runner_of s.running n)) leaves in
+    let leaving : h.runner.leaving ≡ Some gone.0 = ap leaving_in (sym h.runs ∙ ap (runner_of t.running) number ∙ ap (λ l. runner_of l n) (less-found s at).running) ∙ gone.1 in
     way-told s seat at n gone.0 healthy h leaving
 
 pub told-taken : (n : ℕ) (submitted : Submitted) (answer : Reply) → IsTold n submitted answer → is_refused answer ≡ false → is_refusal submitted ≡ false
@@ -175,12 +175,12 @@ told-taken n (Ended end) answer told plain = refl
 told-taken n (Refused r) answer told plain = absurd (false≢true (sym plain ∙ ap is_refused told))
 
 -- one that is not to give way is refused to, and runs on
-stands-still : (t : State) (seat n : ℕ) (c : Change) → (h : RunsThere t seat n) → is_some (way_in (runner_of t.running n)) ≡ false → IsTried t seat (GiveWay n) c
+stands-still : (t : State) (seat n : ℕ) (c : Change) → (h : RunsThere t seat n) → is_some (leaving_in (runner_of t.running n)) ≡ false → IsTried t seat (GiveWay n) c
     → (r : Refusal) × (c ≡ quiet t (Says (reply.Refused r)))
 stands-still t seat n _ h stands (stays _ (refuses _ r is)) = (r, refl)
 stands-still t seat n _ h stands (changes _ (gives_way _ x r pool found runs leaves) loud) =
     absurd (false≢true (sym stands
-    ∙ ap (λ o. is_some (way_in o)) (ap (runner_of t.running) (sym (session_of-is t seat n x found).number) ∙ runs) ∙ ap is_some leaves))
+    ∙ ap (λ o. is_some (leaving_in o)) (ap (runner_of t.running) (sym (session_of-is t seat n x found).number) ∙ runs) ∙ ap is_some leaves))
 
 -- what an event that changes nothing leaves of a run
 quiet-run : (s : State) (seat n : ℕ) (due : Bool) (t : State) (e f : Event) (r : Reply) (m : ℕ)
@@ -193,7 +193,7 @@ pub stands-running : (s : State) (seat at n : ℕ) (run : Run) → IsHealthy s �
 stands-running s seat at n run healthy is stands =
     let t = found_at s at in
     let h = runs-there s seat at n run healthy is in
-    let still = stands-still t seat n (attempted t seat (GiveWay n)) h (ap (λ l. is_some (way_in (runner_of l n))) (less-found s at).running ∙ stands) (tried-is t seat (GiveWay n)) in
+    let still = stands-still t seat n (attempted t seat (GiveWay n)) h (ap (λ l. is_some (leaving_in (runner_of l n))) (less-found s at).running ∙ stands) (tried-is t seat (GiveWay n)) in
     ap (λ (c : Change). run_of (outcome s (has_due s at) seat (GiveWay n) c).state seat n) still.1
     ∙ quiet-run s seat n (has_due s at) t (GiveWay n) (Poll n) (reply.Refused still.0) n
     ∙ ap (λ (c : Change). run_of (outcome s (has_due s at) seat (Poll n) c).state seat n) (sym (poll-quiet t seat n h.session h.found h.goes_on))

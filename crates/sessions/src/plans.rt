@@ -1,5 +1,9 @@
 //! The plans that a script keeps for its sessions.
 
+ghost use Rattle.std.specs.Prelude.{◌≡◌, ◌==◌};
+ghost use Rattle.std.specs.List.{list_any};
+ghost use Rattle.sessions.specs.declared.plans.KeptPlan.{KeptPlan};
+
 use query_plan::plan::Plan;
 use std::alloc::{AllocError, Global};
 use std::marker::Model;
@@ -54,7 +58,7 @@ impl Plans {
     pub fn has(&self, session: u32) -> bool
         ensures { result ≡ is_some (plan_of self.now session) }
     {
-        self.plans.iter().any(|kept| kept.session == session)
+        has_plan(&self.plans, session)
     }
 
     /// Keeps no plan for a session, and hands out the one before.
@@ -82,4 +86,11 @@ impl Plans {
     {
         self.plans.iter().position(|kept| kept.session == session)
     }
+}
+
+/// Whether one of these plans is kept for a session.
+fn has_plan(plans: &[KeptPlan], session: u32) -> bool
+    ensures { result ≡ list_any (λ (k : KeptPlan). k.session == session) plans.now }
+{
+    plans.iter().any(|kept| kept.session == session)
 }
