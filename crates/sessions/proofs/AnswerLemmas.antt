@@ -1,5 +1,5 @@
 -- The parts of an answer.
-use Rattle.std.proofs.Common.{◌≡◌, ℕ, List, [], ◌++◌, refl, sym, ap, ◌∙◌, append-nil}
+use Rattle.std.proofs.Common.{◌≡◌, ℕ, List, ◌++◌, refl, ap, ◌∙◌, append-nil}
 use Rattle.rm_base.specs.declared.name.Name.{Name}
 use Rattle.rm_base.specs.declared.reply.Reply.TheVariants as reply
 use Rattle.sessions.specs.declared.answer.Answer.{Answer}

@@ -1,5 +1,5 @@
 -- Whether a session's query is to give way: what leaves that as it is, and what a check, a Finish and a GiveWay make of it.
-use Rattle.std.proofs.Common.{◌≡◌, ◌≢◌, ℕ, Bool, true, false, ◌||◌, not, cond, eqb, List, [], ◌∷◌, ◌++◌, Option, Some, None, Result, Ok, Err, refl, sym, ap, ◌∙◌, subst, arith, count_by}
+use Rattle.std.proofs.Common.{◌≡◌, ℕ, Bool, true, false, ◌||◌, not, cond, eqb, List, [], ◌∷◌, ◌++◌, Option, Some, None, Result, Ok, Err, refl, sym, ap, ◌∙◌, subst, arith}
 use Rattle.std.specs.Prelude.{option_map, option_and_then, map}
 use Rattle.std.specs.Option.{is_some}
 use Rattle.std.proofs.lemmas.Bool.{eqb-true, false≢true}
@@ -234,14 +234,19 @@ says-way : (d : Definitions) (r : Runner) (session_cap : Option ℕ) (running : 
 says-way d r session_cap running answer e = turn r.cancelled r.leaving e where
   user : Option Verdict
   user = ended_by owner.User (user_runtime_cap d r.user) running
+
   own : Option Verdict
   own = ended_by owner.Session session_cap running
+
   within : Option Verdict
   within = says_if (not (is_exceeded (pool_runtime_cap d r.pool) running)) reply.Go
+
   next : Option Verdict
   next = option_map verdict.GoesTo (target d r.pool running r.moves)
+
   end : Option Verdict
   end = ended_by owner.Pool (pool_runtime_cap d r.pool) running
+
   rest : IsNoWay (first_verdict (user ∷ own ∷ within ∷ next ∷ end ∷ []))
   rest =
       first-no_way user (own ∷ within ∷ next ∷ end ∷ []) (ended-no_way owner.User (user_runtime_cap d r.user) running)
@@ -249,6 +254,7 @@ says-way d r session_cap running answer e = turn r.cancelled r.leaving e where
       (first-no_way within (next ∷ end ∷ []) (says-no_way (not (is_exceeded (pool_runtime_cap d r.pool) running)) reply.Go refl)
       (first-no_way next (end ∷ []) (next-no_way (target d r.pool running r.moves))
       (first-no_way end [] (ended-no_way owner.Pool (pool_runtime_cap d r.pool) running) refl))))
+
   turn : (b : Bool) (o : Option Name)
       → first_verdict (says_if b reply.Stopping ∷ option_map (λ pool. verdict.Says (reply.GiveWay pool)) o ∷ user ∷ own ∷ within ∷ next ∷ end ∷ []) ≡ verdict.Says answer
       → is_some o ≡ (is_some o || asks_way answer)

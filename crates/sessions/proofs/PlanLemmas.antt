@@ -8,7 +8,6 @@ use Rattle.rm_base.specs.declared.name.Name.{Name}
 use Rattle.rm_base.specs.declared.select.Select.{Select}
 use Rattle.rm_base.specs.Name.{same_name}
 use Rattle.rm_base.specs.TableSeen.{TableSeen}
-use Rattle.rm_rules.specs.State.{without}
 use Rattle.csv_tables.specs.declared.tables.NamedTable.{NamedTable}
 use Rattle.csv_tables.specs.Named.{table_called}
 use Rattle.query_plan.specs.Scope.{table_named}

@@ -7,7 +7,7 @@ use Rattle.rm_base.specs.declared.select.Select.{Select}
 use Rattle.csv_tables.specs.declared.tables.NamedTable.{NamedTable}
 use Rattle.sessions.specs.Held.{unnumbered, PrintsAs}
 use Rattle.sessions.specs.Texts.{line_text, queued_text}
-use Rattle.sessions.specs.Turns.{ScriptState, Turn, Goes, after_submit, after_poll, after_finish, done_text, checked_turn}
+use Rattle.sessions.specs.Turns.{ScriptState, Goes, after_submit, after_poll, after_finish, done_text, checked_turn}
 
 -- what does not see the number
 same-shown : {X : Type 0} (f : Reply → X) → ((r : Reply) → f (unnumbered r) ≡ f r) → (a b : Reply) → PrintsAs a b → f a ≡ f b

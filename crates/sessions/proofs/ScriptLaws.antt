@@ -38,7 +38,7 @@ use Rattle.sessions.specs.declared.options.Options.{Options}
 use Rattle.sessions.specs.Commands.{Request, SetPool, SetCap, Ask, Poll, Check, Way, Done, Cancel, Close, Command, At, Sql, Open, Query, Load, Of, command_of}
 use Rattle.sessions.specs.Options.{options_of}
 use Rattle.sessions.specs.Script.{Files, command_turn, line_turn, is_comment, ScriptEnd, turn_end, lines_end, no_script, script_start, first_state, script_with, script, IsOneHistory}
-use Rattle.sessions.specs.Turns.{ScriptState, Turn, Bad, Goes, Stops, judged_turn, read_turn, chosen_turn, after_open, opened_turn, opening_turn, after_close, close_turn, after_submit, query_turn, query_for, after_poll, poll_turn, way_turn, after_finish, finish_turn, end_turn, told_first, checked_turn, done_turn, cancel_turn, loaded_turn, file_turn, has_no_place, table_turn, request_turn, session_turn, turn}
+use Rattle.sessions.specs.Turns.{ScriptState, Turn, Bad, Goes, Stops, judged_turn, read_turn, chosen_turn, after_open, opened_turn, opening_turn, after_close, close_turn, after_submit, query_turn, query_for, after_poll, poll_turn, way_turn, after_finish, finish_turn, end_turn, told_first, checked_turn, done_turn, cancel_turn, loaded_turn, file_turn, has_no_place, request_turn, session_turn, turn}
 use Rattle.sessions.specs.Plans.{plan_of}
 use Rattle.sessions.specs.SessionNames.{session_named}
 use Rattle.sessions.specs.Texts.{line_text}

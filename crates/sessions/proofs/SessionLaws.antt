@@ -177,12 +177,14 @@ way-taken old new at n g answered submitted h told (own, is) leaves =
 pub stands-called : (old new : Known) (at n : ℕ) (g : Granted) (answered : Answered) → Called old new at (GiveWay n) answered → HoldsGrant old n g → sees_leaving old n ≡ false
     → HoldsGrant new n g
 stands-called old new at n g answered h (own, is) stands =
-    let opened = subst (SeesOpen old) own (running-open old g is) in
-    (own, subst (λ k. run_of (state_of new) new.seat k ≡ Some (run_with g)) (sym own)
-    (called-turn (λ seat s r. run_of s seat n ≡ Some (run_with g)) old new at (GiveWay n) answered h
-    (stands-running (state_of h.found) h.found.seat at n (run_with g) (sees-healthy old h.found h.sees)
-    (subst (λ k. run_of (state_of h.found) h.found.seat k ≡ Some (run_with g)) own (running-sees old h.found g h.sees is))
-    (leaving-sees old h.found n h.sees opened ∙ stands))))
+    let opened = subst (SeesOpen old) own (running-open old g is) in (
+      own,
+      subst (λ k. run_of (state_of new) new.seat k ≡ Some (run_with g)) (sym own)
+          (called-turn (λ seat s r. run_of s seat n ≡ Some (run_with g)) old new at (GiveWay n) answered h
+          (stands-running (state_of h.found) h.found.seat at n (run_with g) (sees-healthy old h.found h.sees)
+          (subst (λ k. run_of (state_of h.found) h.found.seat k ≡ Some (run_with g)) own (running-sees old h.found g h.sees is))
+          (leaving-sees old h.found n h.sees opened ∙ stands))),
+    )
 
 pub submit-busy : (old new : Known) (at n floor : ℕ) (g : Granted) (answered : Answered) (submitted : Submitted) → Called old new at (Submit n floor) answered → IsTold n submitted answered.reply
     → HoldsGrant old n g → submitted ≡ Refused SessionBusy

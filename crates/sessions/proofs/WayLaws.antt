@@ -1,5 +1,5 @@
 -- What Check and GiveWay answer a session whose query runs.
-use Rattle.std.proofs.Common.{◌≡◌, ℕ, Bool, true, false, ◌||◌, cond, eqb, Option, Some, None, Result, Ok, Err, refl, sym, ap, ◌∙◌, subst}
+use Rattle.std.proofs.Common.{◌≡◌, ℕ, Bool, true, false, ◌||◌, cond, eqb, Option, Some, None, Ok, Err, refl, sym, ap, ◌∙◌, subst}
 use Rattle.std.specs.Option.{is_some}
 use Rattle.std.proofs.lemmas.Bool.{eqb-true, eq-eqb, false≢true}
 use Rattle.rm_base.specs.declared.event.Event.{Event}
@@ -22,7 +22,7 @@ use Rattle.rm_rules.specs.Settle.{settled}
 use Rattle.rm_rules.specs.Change.{Change, quiet, changing, checked, checking, giving_way, giving_way_to, change, tried}
 use Rattle.rm_rules.specs.Answers.{told, told_in_phase, told_running, told_waiting, reply_of}
 use Rattle.rm_rules.specs.Step.{outcome, has_due, found_at, attempted, step}
-use Rattle.rm_rules.specs.Grants.{Run, run_of, run_by, is_refused}
+use Rattle.rm_rules.specs.Grants.{Run, run_of, is_refused}
 use Rattle.rm_rules.specs.Healthy.{AreInPhase, IsHealthy, one_if, counted_for, defining_for}
 use Rattle.rm_rules.proofs.Taken.{or_right_false}
 use Rattle.rm_rules.proofs.Found.{is_some-find}
@@ -32,7 +32,7 @@ use Rattle.rm_rules.proofs.Grants.{less-found}
 use Rattle.rm_rules.proofs.Changing.{IsTried, stays, changes, refuses, judges, moves_on, asks, gives_way, session_of-is, tried-is}
 use Rattle.rm_rules.proofs.Verdicts.{IsCheckReply, says_go, says_way, says_end, says_stop}
 use Rattle.rm_rules.proofs.Stepping.{found-facts, tried-facts, outcome-turn}
-use Rattle.rm_rules.proofs.Runs.{run-is, run-found, runs-open, owned-opened, owned-found_at, runs-on}
+use Rattle.rm_rules.proofs.Runs.{run-is, runs-open, owned-opened, owned-found_at, runs-on}
 use Rattle.sessions.specs.declared.submitted.Submitted.{Submitted}
 use Rattle.sessions.specs.declared.submitted.Submitted.TheVariants.{Admitted, Waiting, Ended, Refused}
 use Rattle.sessions.specs.Session.{IsTold, is_refusal, is_leaving}

@@ -1,5 +1,5 @@
 -- What the run of a plan came to, and what an answer prints.
-use Rattle.std.specs.Prelude.{◌≡◌, ◌<◌, ℕ, false, List, [], ◌++◌, length, string_bytes}
+use Rattle.std.specs.Prelude.{◌≡◌, ℕ, false, List, [], ◌++◌, length, string_bytes}
 use Rattle.csv.specs.Writing.{default_writer, writer_setup, fields_written, has_written}
 use Rattle.csv.specs.declared.writer.Writer.{Writer}
 use Rattle.query_run.specs.Running.{RunOutcome}

@@ -1,4 +1,4 @@
-use Rattle.std.proofs.Common.{◌≡◌, ℕ, ◌++◌, [], List, Vec, Global, Some, ap, ◌∙◌, subst}
+use Rattle.std.proofs.Common.{ℕ, ◌++◌, [], List, Vec, Global, Some, ap, ◌∙◌}
 use Rattle.std.proofs.lemmas.List.{take_all}
 use Rattle.rm_base.specs.declared.value.Value.{Value}
 use Rattle.sessions.specs.AnswerTexts.{row_line, rows_text}

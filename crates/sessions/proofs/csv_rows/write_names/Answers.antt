@@ -1,4 +1,4 @@
-use Rattle.std.proofs.Common.{◌≡◌, ◌∙◌, sym, ap, arith, subst}
+use Rattle.std.proofs.Common.{◌∙◌, arith, subst}
 use Rattle.std.proofs.lemmas.Result.{on_ok_weaker}
 use Rattle.sessions.proofs.CsvLemmas.{fields-none, fields-next, fields-whole, fields-end, WroteField}
 use Rattle.sessions.proofs.csv_rows.write_names.Goals as goal

@@ -1,7 +1,5 @@
-use Rattle.std.proofs.Common.{◌≡◌, ◌∙◌, sym, ap, arith}
+use Rattle.std.proofs.Common.{arith}
 use Rattle.std.proofs.lemmas.Result.{on_ok_weaker}
-use Rattle.csv.specs.declared.writer.Writer.{Writer}
-use Rattle.sessions.specs.Answered.{IsBetweenRows}
 use Rattle.sessions.proofs.CsvLemmas.{fields-none, cells-next, cells-whole, fields-end, between-rows}
 use Rattle.sessions.proofs.csv_rows.write_row.Goals as goal
 

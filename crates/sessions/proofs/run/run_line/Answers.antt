@@ -1,4 +1,4 @@
-use Rattle.std.proofs.Common.{◌≡◌, ◌∙◌, sym, ap}
+use Rattle.std.proofs.Common.{◌∙◌, sym, ap}
 use Rattle.sessions.specs.Answered.{answer_text}
 use Rattle.sessions.specs.Running.{seen_turn}
 use Rattle.sessions.specs.Turns.{Goes}

@@ -1,4 +1,4 @@
-use Rattle.std.proofs.Common.{◌≡◌, ◌∙◌, refl, sym, arith}
+use Rattle.std.proofs.Common.{◌∙◌, refl, arith}
 use Rattle.std.proofs.lemmas.Result.{err_from_is_err_and}
 use Rattle.sessions.specs.World.{seen_sink, seen_shelf}
 use Rattle.sessions.proofs.RunLemmas.{has_run-begins, has_run-ends, has_run-more, has_run-whole, cause-later}

@@ -1,4 +1,4 @@
-use Rattle.std.proofs.Common.{ℕ, refl, sym, subst}
+use Rattle.std.proofs.Common.{ℕ, refl, subst}
 use Rattle.rm_base.specs.declared.event.Event.TheVariants.{Check}
 use Rattle.sessions.specs.Host.{desk_known, Called}
 use Rattle.sessions.proofs.held.Held.checked.Goals as goal

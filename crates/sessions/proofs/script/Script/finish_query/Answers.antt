@@ -1,4 +1,4 @@
-use Rattle.std.proofs.Common.{ℕ, set, refl, ap, sym, subst}
+use Rattle.std.proofs.Common.{ℕ, set, ap, sym, subst}
 use Rattle.rm_base.specs.declared.event.Event.{Event}
 use Rattle.rm_base.specs.declared.event.Event.TheVariants as event
 use Rattle.sessions.specs.Held.{unnumbered}

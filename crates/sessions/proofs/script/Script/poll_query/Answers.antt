@@ -1,7 +1,6 @@
 use Rattle.std.proofs.Common.{ℕ, set, refl, ap, sym, subst}
 use Rattle.rm_base.specs.declared.event.Event.{Event}
 use Rattle.rm_base.specs.declared.event.Event.TheVariants as event
-use Rattle.sessions.specs.Held.{unnumbered}
 use Rattle.sessions.specs.Host.{desk_known}
 use Rattle.sessions.specs.Running.{Makes}
 use Rattle.sessions.specs.Turns.{ScriptState}

@@ -1,4 +1,4 @@
-use Rattle.std.proofs.Common.{◌≡◌, subst}
+use Rattle.std.proofs.Common.{subst}
 use Rattle.rm_base.specs.declared.event.Event.TheVariants.{Check}
 use Rattle.sessions.specs.Granted.{SessionState}
 use Rattle.sessions.specs.Host.{Called}
