@@ -84,7 +84,7 @@ a opened 1
 a set
 a set
 a set
-bad line 5
+bad line 6
 ====
 open a dbadmin
 set a cap 0
@@ -322,7 +322,7 @@ open a dbadmin
 cancel a b
 ---- 2
 a opened 1
-bad line 2
+bad line 3
 ====
 open a dbadmin
 cancel b a
