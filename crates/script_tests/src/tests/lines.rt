@@ -214,9 +214,9 @@ at\t7|At 7|at7| sql x|sql|sqlx|Sql x|sql\tx|\
 open b|open b dbadmin etl x|Open b dbadmin|open b dbadmin |open b dbadmin etl |open\tb dbadmin|open b\tdbadmin|\
 open 1b dbadmin|open b-c dbadmin|open min dbadmin|open b Select|open b dbadmin select|\
 open b dbadmin 1etl|open \u{e4} dbadmin|open a dbadmin|open A dbadmin|open a dbadmin etl| open b dbadmin|set a pool|\
-set a Pool etl|set a pool select|set a cap 7|set a pool etl x|set b pool general|set a|ask a 0|ask a 000000000000000|\
+set a Pool etl|set a pool select|set a cap 0|set a cap 7 7|set a cap seven|set b cap 7|set a pool etl x|set b pool general|set a|ask a 0|ask a 000000000000000|\
 ask a 0000000000000001|ask a 1000000000000000|ask a +7|ask a -7|ask a|ask a 7 7|ask 7 a|ask a 7 |ask b 1|ask a 1_0|\
-ask a 0x1|ask a 1a|ask a 1.0|ask a \u{661}|ask a one|poll|poll a b|poll a | poll a|poll b|done|done a-b|done a a|\
+ask a 0x1|ask a 1a|ask a 1.0|ask a \u{661}|ask a one|check|check a a|check b|way|way b|cancel a|cancel a b|cancel b a|cancel a a a|poll|poll a b|poll a | poll a|poll b|done|done a-b|done a a|\
 done a |done b|dones a|close|close a b|close a | close a|close b|Close a|closed a|frob a| # no note| |\t|\u{feff}# no note";
 
 #[test]
