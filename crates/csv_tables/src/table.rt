@@ -57,8 +57,8 @@ impl Table {
         self.columns.copy(alloc)
     }
 
-    /// A table without rows.
-    pub(crate) fn new(alloc: Global, columns: Vec<CatalogColumn>) -> Table
+    /// A table without rows, of 1 to 16 columns.
+    pub fn new(alloc: Global, columns: Vec<CatalogColumn>) -> Table
         requires some { 0 < length columns.items }
         requires few { length columns.items ≤ COLUMNS_MOST }
         ensures { result ≡ record { columns = columns.items; rows = [] } }
@@ -84,8 +84,8 @@ impl Table {
         self.put(Row::of(values))
     }
 
-    /// Adds a row.
-    fn put(&mut self, row: Row) -> Result<(), LoadError>
+    /// Adds a row whose values fit the columns.
+    pub fn put(&mut self, row: Row) -> Result<(), LoadError>
         requires { fits_columns self.old.columns row ≡ true }
         ensures ok { OnOk result (with_row self.old row ≡ Ok self.new) }
         ensures err { IfErr result (λ e. (e ≡ Memory) ⊎ (with_row self.old row ≡ Err e)) }

@@ -1,35 +1,15 @@
 //! The sessions, the running queries and the counts beside a pool that is dropped.
 ghost use Rattle.std.specs.Prelude.{◌≡◌, length, map};
-ghost use Rattle.rm_rules.specs.DropPool.{in_place, named_in_place, session_beside, runner_beside, without_place, goes_before};
+ghost use Rattle.rm_rules.specs.DropPool.{session_beside, runner_beside, without_place, goes_before};
 
 use crate::counters::{Counters, place_of_pool};
 use crate::sessions::{Runners, Sessions};
 use rm_base::definitions::Definitions;
 use rm_base::name::Name;
 use rm_base::rows::PoolRow;
+use rm_rules::dropped::{in_place, named_in_place};
 use rm_rules::readings::pool_row;
 use rm_rules::state::{Runner, Session};
-
-/// GENERAL in the place of the pool.
-fn in_place(pool: Name, name: Name) -> Name
-    ensures { result ≡ in_place pool name }
-{
-    if name.same(pool) {
-        Name::general()
-    } else {
-        name
-    }
-}
-
-/// The same of a pool that may be named.
-fn named_in_place(pool: Name, name: Option<Name>) -> Option<Name>
-    ensures { result ≡ named_in_place pool name }
-{
-    match name {
-        Some(name) => Some(in_place(pool, name)),
-        None => None,
-    }
-}
 
 /// A session that chose the pool has chosen GENERAL.
 fn session_beside(pool: Name, x: Session) -> Session

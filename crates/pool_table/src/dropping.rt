@@ -1,7 +1,7 @@
 //! DROP RESOURCE POOL: what it leaves, and what it is refused with.
 ghost use Rattle.std.specs.Prelude.{◌≡◌, find, map};
 ghost use Rattle.rm_base.specs.declared.name.Name.{Name};
-ghost use Rattle.rm_rules.specs.DropPool.{in_place, is_named, user_beside, role_beside, names_pool, without_pool, pool_built_in, pool_needed, drop_pool_refusal};
+ghost use Rattle.rm_rules.specs.DropPool.{is_named, user_beside, role_beside, names_pool, without_pool, pool_built_in, pool_needed, drop_pool_refusal};
 
 use crate::refusals::{changes_full, first_refusal, pool_missing, refused_if};
 use rm_base::bounded::Bounded;
@@ -9,17 +9,7 @@ use rm_base::definitions::Definitions;
 use rm_base::name::Name;
 use rm_base::refusal::Refusal;
 use rm_base::rows::{GrantRow, PoolRow, RoleRow, UserRow};
-
-/// GENERAL in the place of this pool.
-fn in_place(pool: Name, name: Name) -> Name
-    ensures { result ≡ in_place pool name }
-{
-    if name.same(pool) {
-        Name::general()
-    } else {
-        name
-    }
-}
+use rm_rules::dropped::in_place;
 
 /// Whether it is this pool that is named.
 fn is_named(pool: Name, name: Option<Name>) -> bool

@@ -2,7 +2,8 @@ use crate::name::Name;
 use crate::statement::Statement;
 
 /// What may happen to the pool machine. A floor is the least memory that serves a query, in bytes, and a cap the longest
-/// running time of a session's queries, in milliseconds, or none. Cancel asks by one session for the end of another's query.
+/// running time of a session's queries, in milliseconds, or none. Cancel asks by one session for the end of a query, its own
+/// or another's.
 #[derive(Clone, Copy, Debug, PartialEq, Eq)]
 pub enum Event {
     Define(Statement),

@@ -202,3 +202,12 @@ pub const MINUTE_MS: u64 = 60_000;
 
 /// An hour, in milliseconds.
 pub const HOUR_MS: u64 = 3_600_000;
+
+/// The most queries of a generated workload.
+pub const WORKLOAD_QUERIES_MOST: u32 = 10_000;
+
+/// The most rows of a generated workload's first table.
+pub const WORKLOAD_ROWS_MOST: u32 = 100_000;
+
+/// The most workers.
+pub const WORKERS_MOST: u32 = 64;

@@ -7,3 +7,4 @@ pub mod Slots
 pub mod Ranges
 pub mod Stored
 pub mod Watch
+pub mod Clock

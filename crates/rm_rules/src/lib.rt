@@ -6,6 +6,7 @@ pub mod answer;
 pub mod arrangements;
 pub mod cascade_examples;
 pub mod cascades;
+pub mod dropped;
 pub mod free_bytes;
 pub mod history;
 pub mod readings;
