@@ -1,0 +1,4 @@
+pub mod Cells
+pub mod Seen
+pub mod SystemTables
+pub mod TableRows
