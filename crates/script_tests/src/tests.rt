@@ -26,6 +26,7 @@ mod queries;
 mod queue;
 mod rooms;
 mod session_calls;
+mod shows;
 mod statements;
 mod tables;
 mod users;

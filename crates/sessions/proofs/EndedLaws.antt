@@ -7,11 +7,11 @@ use Rattle.std.proofs.lemmas.Bool.Decides.{nat_tests}
 use Rattle.rm_base.specs.declared.limits.TheConstants.{SCRIPT_MOST}
 use Rattle.sessions.specs.declared.failure.Failure.{Failure}
 use Rattle.sessions.specs.declared.failure.Failure.TheVariants.{Usage, BadLine, ReadFault, ShelfFault, WriteFault, BadTable, Memory, TooLong}
-use Rattle.sessions.specs.declared.options.Options.{Options}
-use Rattle.sessions.specs.declared.status.TheConstants.{DONE, USAGE, BAD_LINE, READ_FAULT, WRITE_FAULT, BAD_TABLE, NO_MEMORY, TOO_LONG}
+use Rattle.options.specs.declared.script.ScriptOptions.{ScriptOptions}
+use Rattle.options.specs.declared.status.TheConstants.{DONE, USAGE, BAD_LINE, READ_FAULT, WRITE_FAULT, BAD_TABLE, NO_MEMORY, TOO_LONG}
 use Rattle.sessions.specs.Ended.{WroteWhole, WrotePart, WroteNothing, WroteToTable, EndsAs, IsRun}
 use Rattle.sessions.specs.Failures.{status_of}
-use Rattle.sessions.specs.Options.{options_of}
+use Rattle.options.specs.Script.{script_options}
 use Rattle.sessions.specs.Script.{ScriptEnd, no_script, script_with, first_state, lines_end}
 use Rattle.sessions.specs.Transfers.{ReadFront, IsTooLong}
 use Rattle.sessions.specs.World.{World, HasFailed, CountsNoFault}
@@ -32,7 +32,7 @@ long-turn : (bytes : List ℕ) (now : Option (List ℕ)) → IsTooLong (Some byt
 long-turn bytes None h = absurd h.read
 long-turn bytes (Some rest) h = omega (arith, h.long, ap length h.read, length-append h.bytes rest)
 
-long-exact : (o : Option Options) (old new : World) → IsSome o → Keeps old.output.told new.output.told → IsTooLong old.input.told new.input.told → WroteWhole (script_with o) old new TOO_LONG
+long-exact : (o : Option ScriptOptions) (old new : World) → IsSome o → Keeps old.output.told new.output.told → IsTooLong old.input.told new.input.told → WroteWhole (script_with o) old new TOO_LONG
 long-exact None old new some kept long = absurd (false≢true some)
 long-exact (Some o) old new some kept long = λ bytes files stored given.
     let too : SCRIPT_MOST < length bytes = long-turn bytes new.input.told (subst (λ (q : Option (List ℕ)). IsTooLong q new.input.told) given.of_input long) in
@@ -41,10 +41,10 @@ long-exact (Some o) old new some kept long = λ bytes files stored given.
     subst P (sym (ap (λ b. cond b (no_script TOO_LONG) (lines_end files 1 (first_state o) (lines bytes))) is)) (nothing_appended old.output.told new.output.told kept, refl)
 
 -- the headline: where no fault was counted and memory was not wanting, the text and the status are the script's
-exact : (o : Option Options) (old new : World) (r : Ended) → EndsAs o old new r → CountsNoFault old new → status_of r ≢ NO_MEMORY → WroteWhole (script_with o) old new (status_of r)
+exact : (o : Option ScriptOptions) (old new : World) (r : Ended) → EndsAs o old new r → CountsNoFault old new → status_of r ≢ NO_MEMORY → WroteWhole (script_with o) old new (status_of r)
 exact o old new (Ok done) h none memory = h.1
 exact o old new (Err Usage) h none memory =
-    subst (λ (q : Option Options). WroteWhole (script_with q) old new USAGE) (sym h.0) (λ bytes files stored given. (nothing_appended old.output.told new.output.told h.1, refl))
+    subst (λ (q : Option ScriptOptions). WroteWhole (script_with q) old new USAGE) (sym h.0) (λ bytes files stored given. (nothing_appended old.output.told new.output.told h.1, refl))
 exact o old new (Err BadLine) h none memory = h.1
 exact o old new (Err ReadFault) h none memory = absurd (none.input h.2)
 exact o old new (Err ShelfFault) h none memory = absurd (none.shelf h.2)
@@ -57,7 +57,7 @@ some-none : {A : Type 0} (o : Option A) → IsSome o → o ≡ None → ⊥
 some-none None some none = false≢true some
 some-none (Some x) some none = absurd (cc)
 
-none-usage : (o : Option Options) (old new : World) (r : Ended) → EndsAs o old new r → o ≡ None → status_of r ≡ USAGE
+none-usage : (o : Option ScriptOptions) (old new : World) (r : Ended) → EndsAs o old new r → o ≡ None → status_of r ≡ USAGE
 none-usage o old new (Ok done) h none = absurd (some-none o h.0.known none)
 none-usage o old new (Err Usage) h none = refl
 none-usage o old new (Err BadLine) h none = absurd (some-none o h.0.known none)
@@ -91,7 +91,7 @@ was_short : (a : Option (List ℕ)) (status : ℕ) → IfSome a (λ b. length b 
 was_short None status short = tt
 was_short (Some b) status short = λ long. absurd (omega (arith, short, long))
 
-never_run : (o : Option Options) (old new : World) (r : Ended) → EndsAs o old new r → IfSome old.input.told (λ bytes. SCRIPT_MOST < length bytes → NotRun (status_of r))
+never_run : (o : Option ScriptOptions) (old new : World) (r : Ended) → EndsAs o old new r → IfSome old.input.told (λ bytes. SCRIPT_MOST < length bytes → NotRun (status_of r))
 never_run o old new (Ok done) h = was_short old.input.told DONE h.0.short
 never_run o old new (Err Usage) h = always old.input.told _ (λ bytes long. inl refl)
 never_run o old new (Err BadLine) h = was_short old.input.told BAD_LINE h.0.short
@@ -143,11 +143,11 @@ same-end (Err Memory) e is h = h
 same-end (Err TooLong) e is h = h
 
 -- two ends with one status, which is no fault of reading, are one end, and leave the same
-at_status : (o : Option Options) (old new : World) (r e : Ended) → IsNoReading e → EndsAs o old new r → status_of r ≡ status_of e → EndsAs o old new e
+at_status : (o : Option ScriptOptions) (old new : World) (r e : Ended) → IsNoReading e → EndsAs o old new r → status_of r ≡ status_of e → EndsAs o old new e
 at_status o old new r e is h k = subst (EndsAs o old new) (same-end r e is (ap ended_of k ∙ ended_of-status e is)) h
 
 -- a fault of reading is the input's or the shelf's
-unread : (o : Option Options) (old new : World) (r : Ended) → EndsAs o old new r → status_of r ≡ READ_FAULT
+unread : (o : Option ScriptOptions) (old new : World) (r : Ended) → EndsAs o old new r → status_of r ≡ READ_FAULT
     → (HasFailed old.input new.input × WroteNothing old new) ⊎ (HasFailed old.shelf new.shelf × WroteToTable o old new)
 unread o old new (Ok done) h k = absurd (cc)
 unread o old new (Err Usage) h k = absurd (cc)
@@ -159,7 +159,7 @@ unread o old new (Err BadTable) h k = absurd (cc)
 unread o old new (Err Memory) h k = absurd (cc)
 unread o old new (Err TooLong) h k = absurd (cc)
 
-read_fault : (o : Option Options) (old new : World) → (HasFailed old.input new.input × WroteNothing old new) ⊎ (HasFailed old.shelf new.shelf × WroteToTable o old new)
+read_fault : (o : Option ScriptOptions) (old new : World) → (HasFailed old.input new.input × WroteNothing old new) ⊎ (HasFailed old.shelf new.shelf × WroteToTable o old new)
     → HasFailed old.input new.input ⊎ HasFailed old.shelf new.shelf
 read_fault o old new (inl h) = inl h.0
 read_fault o old new (inr h) = inr h.0
@@ -167,28 +167,28 @@ read_fault o old new (inr h) = inr h.0
 abbrev IsRead : ℕ → Type 0
 IsRead status = (status ≡ DONE) ⊎ ((status ≡ BAD_LINE) ⊎ (status ≡ BAD_TABLE))
 
-read_whole : (o : Option Options) (old new : World) (r : Ended) → EndsAs o old new r → IsRead (status_of r) → IsAtEnd new.input.told
+read_whole : (o : Option ScriptOptions) (old new : World) (r : Ended) → EndsAs o old new r → IsRead (status_of r) → IsAtEnd new.input.told
 read_whole o old new r h (inl k) = (at_status o old new r (Ok tt) tt h k).0.read
 read_whole o old new r h (inr (inl k)) = (at_status o old new r (Err BadLine) tt h k).0.read
 read_whole o old new r h (inr (inr k)) = (at_status o old new r (Err BadTable) tt h k).0.read
 
-own : (o : Option Options) (old new : World) (r : Ended) → EndsAs o old new r → IsRead (status_of r) → WroteWhole (script_with o) old new (status_of r)
+own : (o : Option ScriptOptions) (old new : World) (r : Ended) → EndsAs o old new r → IsRead (status_of r) → WroteWhole (script_with o) old new (status_of r)
 own o old new r h (inl k) = subst (WroteWhole (script_with o) old new) (sym k) (at_status o old new r (Ok tt) tt h k).1
 own o old new r h (inr (inl k)) = subst (WroteWhole (script_with o) old new) (sym k) (at_status o old new r (Err BadLine) tt h k).1
 own o old new r h (inr (inr k)) = subst (WroteWhole (script_with o) old new) (sym k) (at_status o old new r (Err BadTable) tt h k).1
 
-nothing : (o : Option Options) (old new : World) (r : Ended) → EndsAs o old new r → (status_of r ≡ USAGE) ⊎ (status_of r ≡ TOO_LONG) → WroteNothing old new
+nothing : (o : Option ScriptOptions) (old new : World) (r : Ended) → EndsAs o old new r → (status_of r ≡ USAGE) ⊎ (status_of r ≡ TOO_LONG) → WroteNothing old new
 nothing o old new r h (inl k) = (at_status o old new r (Err Usage) tt h k).1
 nothing o old new r h (inr k) = (at_status o old new r (Err TooLong) tt h k).1
 
-front : (o : Option Options) (old new : World) (r : Ended) → EndsAs o old new r → (status_of r ≡ WRITE_FAULT) ⊎ (status_of r ≡ NO_MEMORY) → WrotePart (script_with o) old new
+front : (o : Option ScriptOptions) (old new : World) (r : Ended) → EndsAs o old new r → (status_of r ≡ WRITE_FAULT) ⊎ (status_of r ≡ NO_MEMORY) → WrotePart (script_with o) old new
 front o old new r h (inl k) = (at_status o old new r (Err WriteFault) tt h k).1
 front o old new r h (inr k) = (at_status o old new r (Err Memory) tt h k).1
 
 -- what every run of a script leaves, by how it ended
-pub is_run : (words : List (List ℕ)) (old new : World) (r : Ended) → EndsAs (options_of words) old new r → ReadFront old.input.told new.input.told → IsRun words old new (status_of r)
+pub is_run : (words : List (List ℕ)) (old new : World) (r : Ended) → EndsAs (script_options words) old new r → ReadFront old.input.told new.input.told → IsRun words old new (status_of r)
 is_run words old new r h reads =
-    let o = options_of words in
+    let o = script_options words in
     record {
       exact = exact o old new r h;
       one_history = λ options is bytes files stored given. one_history words bytes files stored options is;

@@ -10,8 +10,8 @@ use Rattle.rm_base.specs.declared.limits.TheConstants.{SCRIPT_MOST}
 use Rattle.rm_outside.specs.Stored.{StoredRows}
 use Rattle.sessions.specs.declared.failure.Failure.{Failure}
 use Rattle.sessions.specs.declared.failure.Failure.TheVariants.{Usage, BadLine, ReadFault, ShelfFault, WriteFault, BadTable, Memory, TooLong}
-use Rattle.sessions.specs.declared.options.Options.{Options}
-use Rattle.sessions.specs.declared.status.TheConstants.{DONE, BAD_LINE, BAD_TABLE, TOO_LONG}
+use Rattle.options.specs.declared.script.ScriptOptions.{ScriptOptions}
+use Rattle.options.specs.declared.status.TheConstants.{DONE, BAD_LINE, BAD_TABLE, TOO_LONG}
 use Rattle.sessions.specs.Ended.{OfScript, HasRunLines, WroteToTable, EndsAs}
 use Rattle.sessions.specs.Running.{IsCause, StoppedAtTable, LinesEnded}
 use Rattle.sessions.specs.Script.{Files, ScriptEnd, no_script, script_with, first_state, lines_end}
@@ -20,19 +20,19 @@ use Rattle.sessions.specs.World.{World, WhereTold}
 use Rattle.sessions.proofs.RunLemmas.{wrote_nothing}
 
 -- a script within its limit has the lines of its bytes
-short-script : (o : Options) (bytes : List ℕ) (files : Files) (stored : StoredRows) → length bytes ≤ SCRIPT_MOST
+short-script : (o : ScriptOptions) (bytes : List ℕ) (files : Files) (stored : StoredRows) → length bytes ≤ SCRIPT_MOST
     → script_with (Some o) bytes files stored ≡ lines_end files 1 (first_state o) (lines bytes)
 short-script o bytes files stored fits =
     let is : ltb SCRIPT_MOST (length bytes) ≡ false = grind (arith, nat_tests) in
     ap (λ b. cond b (no_script TOO_LONG) (lines_end files 1 (first_state o) (lines bytes))) is
 
 -- what a script leaves that wrote nothing and had not the memory that it needed
-pub unrun : (o : Options) (old new : World) → Keeps old.output.told new.output.told → EndsAs (Some o) old new (Err Memory)
+pub unrun : (o : ScriptOptions) (old new : World) → Keeps old.output.told new.output.told → EndsAs (Some o) old new (Err Memory)
 unrun o old new kept =
     (refl, λ bytes files stored given. wrote_nothing old.output.told new.output.told (script_with (Some o) bytes files stored).text kept)
 
 -- what a script leaves whose input could not be read
-pub unread : (o : Options) (old new : World) (f : Failure) → ExplainsInput old.input new.input f → Keeps old.output.told new.output.told → EndsAs (Some o) old new (Err f)
+pub unread : (o : ScriptOptions) (old new : World) (f : Failure) → ExplainsInput old.input new.input f → Keeps old.output.told new.output.told → EndsAs (Some o) old new (Err f)
 unread o old new Usage h kept = absurd h
 unread o old new BadLine h kept = absurd h
 unread o old new ReadFault h kept = (refl, kept, h)
@@ -43,7 +43,7 @@ unread o old new Memory h kept = unrun o old new kept
 unread o old new TooLong h kept = (refl, kept, h)
 
 -- what holds of how the lines end that were read to the end, holds of the script
-of_script : (o : Options) (old new : World) (bytes : List ℕ) (P : ScriptEnd → Type 0) → IsWholeInput old.input.told new.input.told bytes
+of_script : (o : ScriptOptions) (old new : World) (bytes : List ℕ) (P : ScriptEnd → Type 0) → IsWholeInput old.input.told new.input.told bytes
     → WhereTold old.shelf.told (λ files. P (lines_end files 1 (first_state o) (lines bytes)))
     → OfScript (script_with (Some o)) old P
 of_script o old new bytes P whole h given files stored is =
@@ -52,13 +52,13 @@ of_script o old new bytes P whole h given files stored is =
     subst (λ (q : Option (List ℕ)). IfSome q Q) is.of_input (Consumes-whole old.input.told new.input.told bytes Q whole.read whole.at_end here)
 
 -- the same of the lines before one that loads a table
-to_table : (o : Options) (old new : World) (bytes : List ℕ) → IsWholeInput old.input.told new.input.told bytes
+to_table : (o : ScriptOptions) (old new : World) (bytes : List ℕ) → IsWholeInput old.input.told new.input.told bytes
     → WhereTold old.shelf.told (λ files. StoppedAtTable files (first_state o) (lines bytes) old.output.told new.output.told) → WroteToTable (Some o) old new
 to_table o old new bytes whole h given files stored is =
     let Q : List ℕ → Type 0 = λ b. StoppedAtTable files (first_state o) (lines b) old.output.told new.output.told in
     subst (λ (q : Option (List ℕ)). IfSome q Q) is.of_input (Consumes-whole old.input.told new.input.told bytes Q whole.read whole.at_end (h files is.of_shelf))
 
-has_run_lines : (o : Options) (old new : World) (bytes : List ℕ) → IsWholeInput old.input.told new.input.told bytes → HasRunLines (Some o) old new
+has_run_lines : (o : ScriptOptions) (old new : World) (bytes : List ℕ) → IsWholeInput old.input.told new.input.told bytes → HasRunLines (Some o) old new
 has_run_lines o old new bytes whole = record {
   known = refl;
   read = whole.at_end;
@@ -75,7 +75,7 @@ on-cause old new (Ok done) h = tt
 on-cause old new (Err f) h = h
 
 -- what the lines of a script left that was read to the end, the script left
-pub ran : (o : Options) (old new : World) (bytes : List ℕ) (r : Result (Unit {0}) Failure) → IsWholeInput old.input.told new.input.told bytes → OnCause old new r
+pub ran : (o : ScriptOptions) (old new : World) (bytes : List ℕ) (r : Result (Unit {0}) Failure) → IsWholeInput old.input.told new.input.told bytes → OnCause old new r
     → WhereTold old.shelf.told (λ files. LinesEnded files (first_state o) (lines bytes) old.output.told new.output.told r) → EndsAs (Some o) old new r
 ran o old new bytes (Ok done) whole cause h =
     (has_run_lines o old new bytes whole, of_script o old new bytes (λ e. Appends old.output.told new.output.told e.text × (e.status ≡ DONE)) whole h)

@@ -2,8 +2,8 @@ mod LinesLemmas
 mod NumbersLemmas
 mod WordsLemmas
 mod StatementLemmas
+pub mod ShownLaws
 pub mod Written
-pub mod OptionsLaws
 pub mod ScriptLaws
 pub mod EndedLaws
 pub mod EndedLemmas

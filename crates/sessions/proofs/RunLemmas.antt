@@ -6,7 +6,7 @@ use Rattle.std.proofs.KnownBytes.{Appends-trans, Appends-nil}
 use Rattle.std.specs.Str.Lines.{lines}
 use Rattle.sessions.specs.declared.failure.Failure.{Failure}
 use Rattle.sessions.specs.declared.failure.Failure.TheVariants.{Usage, BadLine, ReadFault, ShelfFault, WriteFault, BadTable, Memory, TooLong}
-use Rattle.sessions.specs.declared.status.TheConstants.{DONE, BAD_LINE, BAD_TABLE}
+use Rattle.options.specs.declared.status.TheConstants.{DONE, BAD_LINE, BAD_TABLE}
 use Rattle.sessions.specs.Running.{IsCause, StoppedAtTable, LinesEnded, WentOn, EndsSo, IsTableAt, EndedAt, IsTableLine, IsLoadFault, IsCommandFault, IsLineFault, SeenShelf}
 use Rattle.rm_base.specs.declared.name.Name.{Name}
 use Rattle.sessions.specs.Commands.{Command, Load, command_of}

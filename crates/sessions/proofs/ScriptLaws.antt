@@ -8,7 +8,7 @@ use Rattle.rm_base.specs.declared.event.Event.{Event}
 use Rattle.rm_base.specs.declared.event.Event.TheVariants as event
 use Rattle.rm_base.specs.declared.limits.TheConstants.{SCRIPT_ROOM, SCRIPT_MOST}
 use Rattle.std.specs.Str.Lines.{lines}
-use Rattle.sessions.specs.declared.status.TheConstants.{TOO_LONG}
+use Rattle.options.specs.declared.status.TheConstants.{TOO_LONG}
 use Rattle.rm_base.specs.declared.name.Name.{Name}
 use Rattle.rm_base.specs.declared.refusal.Refusal.{Refusal}
 use Rattle.rm_base.specs.declared.reply.Reply.{Reply}
@@ -23,7 +23,7 @@ use Rattle.csv_tables.specs.Loading.{table_of}
 use Rattle.csv_tables.specs.Named.{catalog_of}
 use Rattle.query_plan.specs.Reading.{read_of as select_of}
 use Rattle.std.specs.Prelude.{codes}
-use Rattle.sessions.specs.declared.status.TheConstants.{BAD_TABLE}
+use Rattle.options.specs.declared.status.TheConstants.{BAD_TABLE}
 use Rattle.sessions.specs.AnswerTexts.{unloaded_text}
 use Rattle.rm_base.specs.Definitions.{fresh}
 use Rattle.rm_base.specs.WellFormed.{IsWellFormed}
@@ -34,15 +34,18 @@ use Rattle.rm_rules.specs.Step.{step}
 use Rattle.rm_rules.specs.Replay.{replay, IsFormed, IsLegal}
 use Rattle.rm_rules.proofs.Laws.{legal-step, replay-step, conserved-after-each, fresh-sound, healthy-start}
 use Rattle.rm_rules.proofs.Histories.{bytes-from}
-use Rattle.sessions.specs.declared.options.Options.{Options}
-use Rattle.sessions.specs.Commands.{Request, SetPool, SetCap, Ask, Poll, Check, Way, Done, Cancel, Close, Command, At, Sql, Open, Query, Load, Of, command_of}
-use Rattle.sessions.specs.Options.{options_of}
+use Rattle.machine.specs.Looked.{snapshot_of}
+use Rattle.system_tables.specs.declared.rows.Shown.{Shown}
+use Rattle.system_tables.specs.TableRows.{shown_of}
+use Rattle.options.specs.declared.script.ScriptOptions.{ScriptOptions}
+use Rattle.sessions.specs.Commands.{Request, SetPool, SetCap, Ask, Poll, Check, Way, Done, Cancel, Close, Command, At, Sql, Open, Query, Load, Show, Of, command_of}
+use Rattle.options.specs.Script.{script_options}
 use Rattle.sessions.specs.Script.{Files, command_turn, line_turn, is_comment, ScriptEnd, turn_end, lines_end, no_script, script_start, first_state, script_with, script, IsOneHistory}
-use Rattle.sessions.specs.Turns.{ScriptState, Turn, Bad, Goes, Stops, judged_turn, read_turn, chosen_turn, after_open, opened_turn, opening_turn, after_close, close_turn, after_submit, query_turn, query_for, after_poll, poll_turn, way_turn, after_finish, finish_turn, end_turn, told_first, checked_turn, done_turn, cancel_turn, loaded_turn, file_turn, has_no_place, request_turn, session_turn, turn}
+use Rattle.sessions.specs.Turns.{ScriptState, Turn, Bad, Goes, Stops, judged_turn, read_turn, chosen_turn, after_open, opened_turn, opening_turn, after_close, close_turn, after_submit, query_turn, query_for, after_poll, poll_turn, way_turn, after_finish, finish_turn, end_turn, told_first, checked_turn, done_turn, cancel_turn, loaded_turn, file_turn, has_no_place, show_turn, request_turn, session_turn, turn}
 use Rattle.sessions.specs.Plans.{plan_of}
 use Rattle.sessions.specs.SessionNames.{session_named}
 use Rattle.sessions.specs.Texts.{line_text}
-use Rattle.sessions.proofs.OptionsLaws.{options-within}
+use Rattle.options.proofs.WithinLaws.{options-within}
 
 -- a fact of the machine that a turn leaves, where it leaves one
 abbrev OnTurn : (State → Type 0) → Turn → Type 0
@@ -178,6 +181,10 @@ of_file P s name (Some bytes) h =
       | false ↦ loads P s name (table_of bytes) h
     ]
 
+shows : (P : State → Type 0) (s : ScriptState) (r : Result Shown Refusal) → P s.machine → OnTurn P (show_turn s r)
+shows P s (Err refusal) h = h
+shows P s (Ok table) h = h
+
 requests : (P : State → Type 0) → IsKeptByCalls P → (s : ScriptState) (session : Name) (number : ℕ) (r : Request) → P s.machine → OnTurn P (request_turn s session number r)
 requests P each s session number (SetPool pool) h = each s.machine s.moment (event.SetPool number pool) tt h
 requests P each s session number (SetCap cap) h = each s.machine s.moment (event.SetCap number cap) tt h
@@ -199,6 +206,7 @@ turn_keeps P each files s (Sql text) h = reads P each s (read_of text) (λ st is
 turn_keeps P each files s (Open session user pool) h = bad_or P _ (opening_turn s session user pool) (opens P each s session user pool h)
 turn_keeps P each files s (Query session text) h = for_query P each s session text (session_named s.names session) h
 turn_keeps P each files s (Load name path) h = bad_or P (has_no_place s.tables name) (file_turn s name (files path)) (of_file P s name (files path) h)
+turn_keeps P each files s (Show name) h = shows P s (shown_of (snapshot_of s.machine) name) h
 turn_keeps P each files s (Of session r) h = for_session P each s session r (session_named s.names session) h
 
 command_keeps : (P : State → Type 0) → IsKeptByCalls P → (files : Files) (s : ScriptState) (o : Option Command) → P s.machine → OnTurn P (command_turn files s o)
@@ -240,7 +248,7 @@ legal-lines files first n s lines h =
     lines_end-keeps (IsHistory first) (IsLegal first) (λ m k. k.legal) (history-step first) files n s lines h
 
 -- the journal of a script is a legal history from its first state
-legal : (o : Options) (bytes : List ℕ) (files : Files) (stored : StoredRows) → IsLegal (script_start o) (script_with (Some o) bytes files stored).journal
+legal : (o : ScriptOptions) (bytes : List ℕ) (files : Files) (stored : StoredRows) → IsLegal (script_start o) (script_with (Some o) bytes files stored).journal
 legal o bytes files stored =
     elim (ltb SCRIPT_MOST (length bytes)) as (λ b. IsLegal (script_start o) (cond b (no_script TOO_LONG) (lines_end files 1 (first_state o) (lines bytes))).journal) [
       | true ↦ tt
@@ -248,7 +256,7 @@ legal o bytes files stored =
     ]
 
 -- the headline, for scripts: what every legal history from sound definitions keeps, a script's does
-pub one_history : (words : List (List ℕ)) (bytes : List ℕ) (files : Files) (stored : StoredRows) (o : Options) → options_of words ≡ Some o
+pub one_history : (words : List (List ℕ)) (bytes : List ℕ) (files : Files) (stored : StoredRows) (o : ScriptOptions) → script_options words ≡ Some o
     → IsOneHistory o (script words bytes files stored)
 one_history words bytes files stored o h =
     let d = fresh o.memory o.cores in
@@ -261,4 +269,4 @@ one_history words bytes files stored o h =
       conserved = conserved-after-each d SCRIPT_ROOM entries sound all_legal;
       kept = bytes-from (script_start o) entries all_legal (healthy-start d SCRIPT_ROOM sound);
     } in
-    subst (λ (q : Option Options). IsOneHistory o (script_with q bytes files stored)) (sym h) is
+    subst (λ (q : Option ScriptOptions). IsOneHistory o (script_with q bytes files stored)) (sym h) is

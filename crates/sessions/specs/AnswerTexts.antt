@@ -15,6 +15,7 @@ use Rattle.rm_base.specs.Select.{select_floor}
 use Rattle.rm_base.specs.TableSeen.{TableSeen}
 use Rattle.rm_rules.specs.Meaning.{SelectOutcome}
 use Rattle.rm_rules.specs.Meaning.SelectOutcome.{Answer, SumOutOfRange, AnswerTooLarge}
+use Rattle.system_tables.specs.declared.rows.Shown.{Shown}
 
 -- the text of a cell: Null is empty, an Int its digits, a Text its bytes
 abbrev pub cell_text : Value → List ℕ
@@ -30,6 +31,10 @@ row_line row = row_text default_writer (map cell_text row)
 abbrev pub rows_text : List (List Value) → List ℕ
 rows_text [] = []
 rows_text (row ∷ rows) = row_line row ++ rows_text rows
+
+-- a table that is shown: the line of its columns' names, and its rows
+abbrev pub shown_text : Shown → List ℕ
+shown_text table = row_text default_writer table.columns ++ rows_text table.rows
 
 -- the line that tells how many rows follow, and the line of their columns' names
 abbrev pub rows_head : Name → List (List ℕ) → ℕ → List ℕ

@@ -33,6 +33,7 @@ pub data Command : Type 0 where
   Open : (session user : Name) → (pool : Option Name) → Command
   Query : (session : Name) (text : List ℕ) → Command
   Load : (name : Name) (path : List ℕ) → Command
+  Show : (name : Name) → Command
   Of : (session : Name) → Request → Command
 
 -- what a request and a command of the program are seen as
@@ -53,6 +54,7 @@ seen_command (told.Sql text) = Sql text.now
 seen_command (told.Open session user pool) = Open session user pool
 seen_command (told.Query session text) = Query session text.now
 seen_command (told.Load name path) = Load name path.now
+seen_command (told.Show name) = Show name
 seen_command (told.Of session request) = Of session (seen_request request)
 
 -- the verb that a word is, compared as written
@@ -70,7 +72,8 @@ verb_of word =
     else (if bytes_eq word (codes "table") then Some verb.Table
     else (if bytes_eq word (codes "check") then Some verb.Check
     else (if bytes_eq word (codes "way") then Some verb.Way
-    else (if bytes_eq word (codes "cancel") then Some verb.Cancel else None))))))))))))
+    else (if bytes_eq word (codes "cancel") then Some verb.Cancel
+    else (if bytes_eq word (codes "show") then Some verb.Show else None)))))))))))))
 
 -- what stands before the first space of a line
 abbrev pub first_word : List ℕ → List ℕ
@@ -144,6 +147,10 @@ query_form words = query_of (first_word words) (text_behind words)
 abbrev pub table_form : List (List ℕ) → Option Command
 table_form words = option_and_then (λ (name, path). option_map (λ n. Load n path) (name_of name)) (two_behind words)
 
+-- `NAME`
+abbrev pub show_form : List (List ℕ) → Option Command
+show_form words = option_and_then (λ name. option_map Show (name_of name)) (one_behind words)
+
 -- the command of a line that begins with a verb, by the forms that the verb may have behind it
 abbrev pub command_with : Verb → List ℕ → Option Command
 command_with verb.At line = moment_form (line_words line)
@@ -159,6 +166,7 @@ command_with verb.Table line = table_form (line_words line)
 command_with verb.Check line = plain_form Check (line_words line)
 command_with verb.Way line = plain_form Way (line_words line)
 command_with verb.Cancel line = cancel_form (line_words line)
+command_with verb.Show line = show_form (line_words line)
 
 -- the command that a line gives, where its first word is a verb and what follows has a form of that verb
 abbrev pub command_of : List ℕ → Option Command

@@ -5,9 +5,9 @@ use Rattle.rm_base.specs.declared.limits.TheConstants.{SCRIPT_MOST}
 use Rattle.rm_outside.specs.Stored.{StoredRows}
 use Rattle.sessions.specs.declared.failure.Failure.{Failure}
 use Rattle.sessions.specs.declared.failure.Failure.TheVariants.{Usage, BadLine, ReadFault, ShelfFault, WriteFault, BadTable, Memory, TooLong}
-use Rattle.sessions.specs.declared.options.Options.{Options}
-use Rattle.sessions.specs.declared.status.TheConstants.{DONE, USAGE, BAD_LINE, READ_FAULT, WRITE_FAULT, BAD_TABLE, NO_MEMORY, TOO_LONG}
-use Rattle.sessions.specs.Options.{options_of}
+use Rattle.options.specs.declared.script.ScriptOptions.{ScriptOptions}
+use Rattle.options.specs.declared.status.TheConstants.{DONE, USAGE, BAD_LINE, READ_FAULT, WRITE_FAULT, BAD_TABLE, NO_MEMORY, TOO_LONG}
+use Rattle.options.specs.Script.{script_options}
 use Rattle.std.specs.Str.Lines.{lines}
 use Rattle.sessions.specs.Running.{StoppedAtTable}
 use Rattle.sessions.specs.Script.{Files, ScriptEnd, first_state, script_with, script, IsOneHistory}
@@ -32,7 +32,7 @@ abbrev pub WrotePart : Scripted → World → World → Type 0
 WrotePart script old new = OfScript script old (λ end. WroteFront old.output.told new.output.told end.text)
 
 -- what the lines print before one that loads a table was written whole, and no more
-abbrev pub WroteToTable : Option Options → World → World → Type 0
+abbrev pub WroteToTable : Option ScriptOptions → World → World → Type 0
 WroteToTable None old new = ⊥
 WroteToTable (Some options) old new =
     (bytes : List ℕ) (files : Files) (stored : StoredRows) → IsGiven old bytes files stored
@@ -47,13 +47,13 @@ abbrev pub IsShort : World → Type 0
 IsShort old = IfSome old.input.told (λ bytes. length bytes ≤ SCRIPT_MOST)
 
 -- the script was read to its end, and its lines were run
-pub record HasRunLines (options : Option Options) (old new : World) : Type 0 where
+pub record HasRunLines (options : Option ScriptOptions) (old new : World) : Type 0 where
   pub known : IsSome options
   pub read : IsAtEnd new.input.told
   pub short : IsShort old
 
 -- what a script with these options, or with none, leaves that ends so
-abbrev pub EndsAs : Option Options → World → World → Result (Unit {0}) Failure → Type 0
+abbrev pub EndsAs : Option ScriptOptions → World → World → Result (Unit {0}) Failure → Type 0
 EndsAs options old new (Ok done) = HasRunLines options old new × WroteWhole (script_with options) old new DONE
 EndsAs options old new (Err Usage) = (options ≡ None) × WroteNothing old new
 EndsAs options old new (Err BadLine) = HasRunLines options old new × WroteWhole (script_with options) old new BAD_LINE
@@ -69,9 +69,9 @@ pub record IsRun (words : List (List ℕ)) (old new : World) (status : ℕ) : Ty
   -- where no fault was counted and memory was not wanting, the text and the status are the script's
   pub exact : CountsNoFault old new → status ≢ NO_MEMORY → WroteWhole (script words) old new status
   -- the script's journal is one legal history of the machine, and the bytes add up after each of its entries
-  pub one_history : (options : Options) → options_of words ≡ Some options → OfScript (script words) old (IsOneHistory options)
+  pub one_history : (options : ScriptOptions) → script_options words ≡ Some options → OfScript (script words) old (IsOneHistory options)
   -- when each status comes
-  pub usage : (status ≡ USAGE) ↔ (options_of words ≡ None)
+  pub usage : (status ≡ USAGE) ↔ (script_options words ≡ None)
   pub read_fault : status ≡ READ_FAULT → HasFailed old.input new.input ⊎ HasFailed old.shelf new.shelf
   pub write_fault : status ≡ WRITE_FAULT → HasFailed old.output new.output
   pub too_long : status ≡ TOO_LONG → IsTooLong old.input.told new.input.told
@@ -85,5 +85,5 @@ pub record IsRun (words : List (List ℕ)) (old new : World) (status : ℕ) : Ty
   pub own : (status ≡ DONE) ⊎ ((status ≡ BAD_LINE) ⊎ (status ≡ BAD_TABLE)) → WroteWhole (script words) old new status
   pub nothing : (status ≡ USAGE) ⊎ (status ≡ TOO_LONG) → WroteNothing old new
   -- a fault of reading is the input's, and then nothing was written, or the shelf's
-  pub unread : status ≡ READ_FAULT → (HasFailed old.input new.input × WroteNothing old new) ⊎ (HasFailed old.shelf new.shelf × WroteToTable (options_of words) old new)
+  pub unread : status ≡ READ_FAULT → (HasFailed old.input new.input × WroteNothing old new) ⊎ (HasFailed old.shelf new.shelf × WroteToTable (script_options words) old new)
   pub front : (status ≡ WRITE_FAULT) ⊎ (status ≡ NO_MEMORY) → WrotePart (script words) old new

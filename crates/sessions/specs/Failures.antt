@@ -4,7 +4,7 @@ use Rattle.rm_outside.specs.declared.outside.Outside.{Outside}
 use Rattle.rm_outside.specs.declared.outside.Outside.TheVariants as outside
 use Rattle.sessions.specs.declared.failure.Failure.{Failure}
 use Rattle.sessions.specs.declared.failure.Failure.TheVariants as failure
-use Rattle.sessions.specs.declared.status.TheConstants.{DONE, USAGE, BAD_LINE, READ_FAULT, WRITE_FAULT, BAD_TABLE, NO_MEMORY, TOO_LONG}
+use Rattle.options.specs.declared.status.TheConstants.{DONE, USAGE, BAD_LINE, READ_FAULT, WRITE_FAULT, BAD_TABLE, NO_MEMORY, TOO_LONG}
 
 -- why a script fails whose input answers this
 abbrev pub read_failure : Outside → Failure

@@ -9,8 +9,6 @@ pub mod Host
 pub mod Kept
 pub mod Lines
 pub mod Numbers
-pub mod Options
-pub mod OptionsFacts
 pub mod Plans
 pub mod Running
 pub mod Script

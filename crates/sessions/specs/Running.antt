@@ -10,8 +10,9 @@ use Rattle.sessions.specs.declared.script.Turned.{Turned}
 use Rattle.sessions.specs.declared.script.Turned.TheVariants as turned
 use Rattle.sessions.specs.declared.failure.Failure.{Failure}
 use Rattle.sessions.specs.declared.failure.Failure.TheVariants.{Usage, BadLine, ReadFault, ShelfFault, WriteFault, BadTable, Memory, TooLong}
-use Rattle.sessions.specs.declared.status.TheConstants.{DONE, BAD_LINE, BAD_TABLE}
+use Rattle.options.specs.declared.status.TheConstants.{DONE, BAD_LINE, BAD_TABLE}
 use Rattle.sessions.specs.Answered.{answer_text}
+use Rattle.sessions.specs.AnswerTexts.{shown_text}
 use Rattle.sessions.specs.Commands.{Command, Load, Request, command_of}
 use Rattle.sessions.specs.Held.{PrintsAs}
 use Rattle.sessions.specs.Script.{Files, ScriptEnd, turn_end, line_turn, lines_end}
@@ -25,6 +26,7 @@ abbrev pub seen_turn : Turned → ScriptState → Turn
 seen_turn turned.Bad s = Bad
 seen_turn (turned.Goes text) s = Goes (string_bytes text) s
 seen_turn (turned.Answers answer) s = Goes (answer_text answer) s
+seen_turn (turned.Shows before table) s = Goes (string_bytes before ++ shown_text table) s
 seen_turn (turned.Stops text) s = Stops (string_bytes text) BAD_TABLE s
 
 -- by this event no session ends, and no query of its session ends, gives way, or is told to

@@ -9,11 +9,11 @@ use Rattle.rm_rules.specs.State.{State, start}
 use Rattle.rm_rules.specs.Replay.{IsLegal}
 use Rattle.rm_rules.specs.Conserved.{ConservedAfterEach}
 use Rattle.rm_rules.specs.Grants.{BytesAreKept}
-use Rattle.sessions.specs.declared.options.Options.{Options}
-use Rattle.sessions.specs.declared.status.TheConstants.{DONE, USAGE, BAD_LINE, TOO_LONG}
+use Rattle.options.specs.declared.script.ScriptOptions.{ScriptOptions}
+use Rattle.options.specs.declared.status.TheConstants.{DONE, USAGE, BAD_LINE, TOO_LONG}
 use Rattle.sessions.specs.Commands.{Command, command_of}
 use Rattle.sessions.specs.Lines.{is_readable}
-use Rattle.sessions.specs.Options.{options_of}
+use Rattle.options.specs.Script.{script_options}
 use Rattle.sessions.specs.Texts.{bad_text}
 use Rattle.sessions.specs.Turns.{ScriptState, Turn, Bad, Goes, Stops, turn}
 
@@ -59,11 +59,11 @@ lines_end files number s [] = record { text = []; status = DONE; journal = s.mac
 lines_end files number s (line ∷ more) = turn_end number s (line_turn files s line) (λ next. lines_end files (number + 1) next more)
 
 -- the machine as a script finds it
-abbrev pub script_start : Options → State
+abbrev pub script_start : ScriptOptions → State
 script_start options = start (fresh options.memory options.cores) SCRIPT_ROOM
 
 -- a script before its first line
-abbrev pub first_state : Options → ScriptState
+abbrev pub first_state : ScriptOptions → ScriptState
 first_state options = record { machine = script_start options; names = []; plans = []; tables = []; moment = 0 }
 
 -- an end before the first line
@@ -71,7 +71,7 @@ abbrev pub no_script : ℕ → ScriptEnd
 no_script status = record { text = []; status = status; journal = [] }
 
 -- a script with these options, over these bytes, files and stored rows; the last are not read yet
-abbrev pub script_with : Option Options → List ℕ → Files → StoredRows → ScriptEnd
+abbrev pub script_with : Option ScriptOptions → List ℕ → Files → StoredRows → ScriptEnd
 script_with None bytes files stored = no_script USAGE
 script_with (Some options) bytes files stored =
     if nat_lt SCRIPT_MOST (length bytes) then no_script TOO_LONG
@@ -80,12 +80,12 @@ script_with (Some options) bytes files stored =
 -- what a script prints, and the status with which it ends, by the words of the command line, the bytes of the script, the
 -- files that it may load and the rows that are stored
 abbrev pub script : List (List ℕ) → List ℕ → Files → StoredRows → ScriptEnd
-script words bytes files stored = script_with (options_of words) bytes files stored
+script words bytes files stored = script_with (script_options words) bytes files stored
 
 -- a script's journal is one legal history of the machine; the quantity is conserved at its start and after each of its
 -- entries; and no entry takes or changes a grant that it does not release, raises the memory in force but with the
 -- total, or admits a query past its pool's cap
-pub record IsOneHistory (options : Options) (end : ScriptEnd) : Type 0 where
+pub record IsOneHistory (options : ScriptOptions) (end : ScriptEnd) : Type 0 where
   pub legal : IsLegal (script_start options) end.journal
   pub conserved : ConservedAfterEach (script_start options) end.journal
   pub kept : BytesAreKept (script_start options) end.journal

@@ -22,10 +22,13 @@ use Rattle.query_run.specs.Running.{tables_called}
 use Rattle.rm_rules.specs.Acceptance.{accepted}
 use Rattle.rm_rules.specs.State.{State}
 use Rattle.rm_rules.specs.Step.{step}
-use Rattle.sessions.specs.Commands.{Request, SetPool, SetCap, Ask, Poll, Check, Way, Done, Cancel, Close, Command, At, Sql, Open, Query, Load, Of}
+use Rattle.machine.specs.Looked.{snapshot_of}
+use Rattle.system_tables.specs.declared.rows.Shown.{Shown}
+use Rattle.system_tables.specs.TableRows.{shown_of}
+use Rattle.sessions.specs.Commands.{Request, SetPool, SetCap, Ask, Poll, Check, Way, Done, Cancel, Close, Command, At, Sql, Open, Query, Load, Show, Of}
 use Rattle.sessions.specs.declared.plans.KeptPlan.{KeptPlan}
-use Rattle.sessions.specs.declared.status.TheConstants.{BAD_TABLE}
-use Rattle.sessions.specs.AnswerTexts.{outcome_text, plan_outcome, fault_text, loaded_text, unloaded_text}
+use Rattle.options.specs.declared.status.TheConstants.{BAD_TABLE}
+use Rattle.sessions.specs.AnswerTexts.{outcome_text, plan_outcome, fault_text, loaded_text, unloaded_text, shown_text}
 use Rattle.sessions.specs.Plans.{plan_of, with_plan, without_plan}
 use Rattle.sessions.specs.SessionNames.{NamedSession, has_session, session_named, without_name}
 use Rattle.sessions.specs.Texts.{line_text, queued_text, chosen_text, bare_text}
@@ -218,6 +221,11 @@ has_no_place tables name = has_table tables name || nat_le TABLES_MOST (length t
 abbrev pub table_turn : (List ℕ → Option (List ℕ)) → ScriptState → Name → List ℕ → Turn
 table_turn files s name path = if has_no_place s.tables name then Bad else file_turn s name (files path)
 
+-- `show NAME`, by what NAME shows of the state as it stands, which stays as it is
+abbrev pub show_turn : ScriptState → Result Shown Refusal → Turn
+show_turn s (Err refusal) = Goes (bare_text (reply.Refused refusal)) s
+show_turn s (Ok table) = Goes (shown_text table) s
+
 -- what is asked of the session S of this number
 abbrev pub request_turn : ScriptState → Name → ℕ → Request → Turn
 request_turn s session number (SetPool pool) = called s (event.SetPool number pool) (line_text session)
@@ -242,4 +250,5 @@ turn files s (Sql text) = read_turn s (read_of text)
 turn files s (Open session user pool) = open_turn s session user pool
 turn files s (Query session text) = query_for s session text (session_named s.names session)
 turn files s (Load name path) = table_turn files s name path
+turn files s (Show name) = show_turn s (shown_of (snapshot_of s.machine) name)
 turn files s (Of session request) = session_turn s session request (session_named s.names session)

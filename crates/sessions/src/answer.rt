@@ -1,9 +1,9 @@
 //! The answer of a query: its plan runs, and what that came to is written.
 
-ghost use Rattle.std.specs.Prelude.{◌≡◌, ◌≤◌, ◌<◌, length, IfOk, IfErr, OnOk, string_bytes};
+ghost use Rattle.std.specs.Prelude.{◌≡◌, ◌≤◌, ◌<◌, ◌++◌, length, IfOk, IfErr, OnOk, string_bytes};
 ghost use Rattle.std.specs.Io.KnownBytes.{Appends};
 ghost use Rattle.query_run.specs.Running.{IsRunnable, tables_called};
-ghost use Rattle.sessions.specs.AnswerTexts.{rows_text, rows_head, plan_outcome};
+ghost use Rattle.sessions.specs.AnswerTexts.{rows_text, rows_head, plan_outcome, shown_text};
 ghost use Rattle.sessions.specs.Answered.{ran_outcome, rows_in, head_text, told_text, answer_text};
 ghost use Rattle.sessions.specs.Transfers.{ExplainsOutput};
 ghost use Rattle.sessions.specs.World.{seen_sink};
@@ -25,6 +25,7 @@ use rm_outside::memory_watch::MemoryWatch;
 use rm_outside::sink::Sink;
 use rm_outside::spool::Spool;
 use std::alloc::{AllocError, Global};
+use system_tables::rows::Shown;
 
 /// What the run of a plan came to.
 #[derive(Drop)]
@@ -96,6 +97,32 @@ fn write_outcome<O: Sink>(alloc: Global, answer: &Answer, out: &mut O) -> Result
     write_rows(alloc, rows_in(&answer.ran), out)?;
     let released = line_text(alloc, answer.session, Reply::Released(answer.released))?;
     write_text(out, released.as_bytes())
+}
+
+/// Writes a table that is shown, behind what is told before it.
+pub fn write_shown<O: Sink>(
+    alloc: Global,
+    before: &str,
+    table: &Shown,
+    out: &mut O,
+) -> Result<(), Failure>
+    ensures later { O.faults out.old ≤ O.faults out.new }
+    ensures whole { OnOk result (Appends (O.written out.old) (O.written out.new) (before.now ++ shown_text table.now)) }
+    ensures err { IfErr result (ExplainsOutput (seen_sink O.Sink out.old) (seen_sink O.Sink out.new) (before.now ++ shown_text table.now)) }
+{
+    write_text(out, before.as_bytes())?;
+    write_table(alloc, table, out)
+}
+
+/// Writes the line of a table's columns, and its rows.
+fn write_table<O: Sink>(alloc: Global, table: &Shown, out: &mut O) -> Result<(), Failure>
+    ensures later { O.faults out.old ≤ O.faults out.new }
+    ensures whole { OnOk result (Appends (O.written out.old) (O.written out.new) (shown_text table.now)) }
+    ensures err { IfErr result (ExplainsOutput (seen_sink O.Sink out.old) (seen_sink O.Sink out.new) (shown_text table.now)) }
+{
+    let head = names_bytes(alloc, table.columns.as_slice())?;
+    write_text(out, &head)?;
+    write_rows(alloc, table.rows.as_slice(), out)
 }
 
 /// The rows of an answer, or none.

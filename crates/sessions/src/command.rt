@@ -1,7 +1,7 @@
 //! The commands of a script.
 
 ghost use Rattle.std.specs.Prelude.{◌≡◌, map, option_map, IfOk};
-ghost use Rattle.sessions.specs.Commands.{seen_request, seen_command, verb_of, first_word, text_behind, plain_form, moment_form, floor_form, user_form, user_pool_form, cancel_form, open_forms, set_form, without_spaces, query_form, table_form, command_with, command_of};
+ghost use Rattle.sessions.specs.Commands.{seen_request, seen_command, verb_of, first_word, text_behind, plain_form, moment_form, floor_form, user_form, user_pool_form, cancel_form, open_forms, set_form, without_spaces, query_form, table_form, show_form, command_with, command_of};
 ghost use Rattle.sessions.specs.Words.{two_behind, three_behind};
 ghost use Rattle.std.specs.Option.{option_and_then};
 
@@ -33,6 +33,8 @@ pub enum Command<'a> {
         name: Name,
         path: &'a str,
     },
+    /// `show NAME`: a system table is printed.
+    Show(Name),
     /// A line that asks something of the session of this name.
     Of(Name, Request),
 }
@@ -76,6 +78,7 @@ pub enum Verb {
     Check,
     Way,
     Cancel,
+    Show,
 }
 
 /// The command that a line gives, if it gives one.
@@ -108,6 +111,7 @@ fn read_with(alloc: Global, verb: Verb, line: &str) -> Result<Option<Command<'_>
         Verb::Check => Ok(plain_form(Request::Check, &line_words(alloc, line)?)),
         Verb::Way => Ok(plain_form(Request::Way, &line_words(alloc, line)?)),
         Verb::Cancel => Ok(cancel_form(&line_words(alloc, line)?)),
+        Verb::Show => Ok(show_form(&line_words(alloc, line)?)),
     }
 }
 
@@ -129,6 +133,7 @@ fn verb_of(word: &str) -> Option<Verb>
         "check" => Some(Verb::Check),
         "way" => Some(Verb::Way),
         "cancel" => Some(Verb::Cancel),
+        "show" => Some(Verb::Show),
         _ => None,
     }
 }
@@ -201,6 +206,14 @@ fn table_form<'a>(words: &[&'a str]) -> Option<Command<'a>>
     let (name, path) = two_behind(words)?;
     let name = Name::of(name)?;
     Some(Command::Load { name, path })
+}
+
+/// `NAME`
+fn show_form<'a>(words: &[&str]) -> Option<Command<'a>>
+    ensures { option_map seen_command result ≡ show_form (map (λ word. word.now) words.now) }
+{
+    let name = one_behind(words)?;
+    Some(Command::Show(Name::of(name)?))
 }
 
 /// `N`

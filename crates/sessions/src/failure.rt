@@ -3,7 +3,7 @@
 ghost use Rattle.std.specs.Prelude.{◌≡◌};
 ghost use Rattle.sessions.specs.Failures.{read_failure, write_failure, status_of};
 
-use crate::status::{
+use options::status::{
     BAD_LINE, BAD_TABLE, DONE, NO_MEMORY, READ_FAULT, Status, TOO_LONG, USAGE, WRITE_FAULT,
 };
 use rm_outside::outside::Outside;

@@ -1,9 +1,10 @@
-//! Numbers that are written in decimal digits alone.
+//! The numbers of a script.
 
 ghost use Rattle.std.specs.Prelude.{◌≡◌, ◌^◌, ◌<◌, option_map};
 ghost use Rattle.rm_base.specs.declared.limits.TheConstants.{DIGITS_MOST};
-ghost use Rattle.sessions.specs.Numbers.{numeral_of, below, script_number, positive_of, cap_of};
+ghost use Rattle.sessions.specs.Numbers.{script_number, positive_of, cap_of};
 
+use options::numeral::numeral_of;
 use rm_base::limits::DIGITS_MOST;
 
 /// A number of a script, as a type that knows how many digits it has at most. So it is a moment.
@@ -11,18 +12,6 @@ use rm_base::limits::DIGITS_MOST;
 pub struct Number {
     pub value: u64,
     ghost short: { value < 10 ^ DIGITS_MOST },
-}
-
-/// The number that a word of digits writes, where 64 bits hold it.
-///
-/// `parse` alone would let a `+` in.
-pub fn numeral_of(word: &str) -> Option<u64>
-    ensures { result ≡ below (2 ^ 64) (numeral_of word.now) }
-{
-    if word.starts_with('+') {
-        return None;
-    }
-    word.parse().ok()
 }
 
 /// A number of a script.

@@ -5,7 +5,7 @@ ghost use Rattle.std.specs.Str.Lines.{lines};
 ghost use Rattle.sessions.specs.Running.{IsCause, LinesEnded, WentOn, EndedAt};
 ghost use Rattle.sessions.specs.World.{WhereTold, seen_sink, seen_shelf};
 
-use crate::answer::write_answer;
+use crate::answer::{write_answer, write_shown};
 use crate::failure::Failure;
 use crate::lines::cut_line;
 use crate::output::write_text;
@@ -38,6 +38,7 @@ fn run_line<O: Sink, H: Shelf, P: Spool>(
     match script.take_line(alloc, shelf, spool, line)? {
         Turned::Goes(text) => write_text(out, text.as_bytes()),
         Turned::Answers(answer) => write_answer(alloc, &answer, out),
+        Turned::Shows { before, table } => write_shown(alloc, before.as_str(), &table, out),
         Turned::Bad => {
             let text = bad_text(alloc, number)?;
             write_text(out, text.as_bytes())?;

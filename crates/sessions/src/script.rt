@@ -14,7 +14,6 @@ use crate::held::{Held, has_session, place_of};
 use crate::host::Host;
 use crate::lines::readable;
 use crate::numbers::Number;
-use crate::options::Options;
 use crate::plans::Plans;
 use crate::session::Session;
 use crate::texts::{
@@ -24,6 +23,7 @@ use crate::texts::{
 use csv_tables::load_error::LoadError;
 use csv_tables::tables::Tables;
 use machine::desk::Desk;
+use options::script::ScriptOptions;
 use pool_sql::reading::{ReadError, read_statement};
 use pool_table::accept;
 use query_plan::plan::Plan;
@@ -40,6 +40,7 @@ use rm_outside::shelf::{Shelf, ShelfError};
 use rm_outside::spool::Spool;
 use std::alloc::{AllocError, Global};
 use std::marker::Model;
+use system_tables::rows::{ShowError, Shown, table_rows};
 
 /// A script that runs.
 #[derive(Drop)]
@@ -63,12 +64,14 @@ impl Model for Script {
     ghost invariant = { IsKept };
 }
 
-/// What a line did: it is bad, it prints a text or an answer, or it prints a text and ends the script.
+/// What a line did: it is bad, it prints a text, an answer or a table, or it prints a text and ends the script.
 #[derive(Drop)]
 pub enum Turned {
     Bad,
     Goes(String),
     Answers(Answer),
+    /// A table, with what is told before it.
+    Shows { before: String, table: Shown },
     Stops(String),
 }
 
@@ -81,18 +84,20 @@ impl Script {
     ghost use Rattle.rm_rules.specs.Sound.{IsSound};
     ghost use Rattle.pool_sql.specs.Reading.{read_of};
     ghost use Rattle.sessions.specs.Commands.{seen_command, seen_request, SetPool, SetCap, Ask, Poll, Check, Close};
-    ghost use Rattle.sessions.specs.OptionsFacts.{AreWithin};
+    ghost use Rattle.options.specs.Within.{AreWithin};
     ghost use Rattle.sessions.specs.Script.{first_state, line_turn};
     ghost use Rattle.csv_tables.specs.Loading.{table_of};
     ghost use Rattle.query_run.specs.Running.{IsRunnable};
     ghost use Rattle.sessions.specs.Plans.{plan_of};
-    ghost use Rattle.sessions.specs.Turns.{Goes, turn, at_turn, read_turn, statement_turn, open_turn, chosen_turn, after_open, session_turn, query_turn, query_for, after_submit, after_poll, way_turn, after_finish, done_text, finish_turn, end_turn, checked_turn, done_turn, cancel_turn, table_turn, loaded_turn, has_no_place};
+    ghost use Rattle.sessions.specs.Turns.{Goes, turn, at_turn, read_turn, statement_turn, open_turn, chosen_turn, after_open, session_turn, query_turn, query_for, after_submit, after_poll, way_turn, after_finish, done_text, finish_turn, end_turn, checked_turn, done_turn, cancel_turn, table_turn, loaded_turn, show_turn, has_no_place};
+    ghost use Rattle.machine.specs.Looked.{snapshot_of};
+    ghost use Rattle.system_tables.specs.TableRows.{shown_of};
     ghost use Rattle.sessions.specs.World.{WhereTold, seen_shelf};
     ghost use Rattle.sessions.specs.SessionNames.{has_session, place_named, session_named};
     ghost use Rattle.sessions.specs.Running.{seen_turn, keeps_sessions, DoesRequest, Makes, IsLineFault, IsCommandFault, IsLoadFault};
 
     /// A script before its first line.
-    pub fn new(alloc: Global, options: Options) -> Result<Script, AllocError>
+    pub fn new(alloc: Global, options: ScriptOptions) -> Result<Script, AllocError>
         requires { AreWithin options }
         ensures { IfOk result (λ s. s ≡ first_state options) }
     {
@@ -156,6 +161,7 @@ impl Script {
             } => Ok(self.open(alloc, session, user, pool)?),
             Command::Query { session, text } => Ok(self.query(alloc, session, text)?),
             Command::Load { name, path } => self.load(alloc, shelf, name, path),
+            Command::Show(name) => Ok(self.show(alloc, name)?),
             Command::Of(session, request) => Ok(self.take_request(alloc, spool, session, request)?),
         }
     }
@@ -635,6 +641,23 @@ impl Script {
         }
     }
 
+    /// `show NAME`
+    fn show(&self, alloc: Global, name: Name) -> Result<Turned, AllocError>
+        ensures { IfOk result (λ t. seen_turn t self.now ≡ show_turn self.now (shown_of (snapshot_of self.now.machine) name)) }
+    {
+        // For the proof alone: what every desk keeps, as the history's clauses say.
+        let _entries = self.desk.entries();
+        let looked = self.desk.look(alloc)?;
+        match table_rows(alloc, &looked.snapshot, name) {
+            Ok(table) => Ok(Turned::Shows {
+                before: String::new(alloc),
+                table,
+            }),
+            Err(ShowError::Refused(refusal)) => refused(alloc, refusal),
+            Err(ShowError::Memory) => Err(AllocError),
+        }
+    }
+
     /// The number of the session at the place of its name.
     fn number_at(&self, session: Name, place: usize) -> u32
         requires { place_named self.now.names session ≡ Some place }
@@ -776,6 +799,13 @@ fn told_first(first: String, turned: Turned) -> Result<Turned, AllocError>
                 ran,
                 released,
             }))
+        }
+        Turned::Shows { before, table } => {
+            text.push_str(&before)?;
+            Ok(Turned::Shows {
+                before: text,
+                table,
+            })
         }
         Turned::Stops(more) => {
             text.push_str(&more)?;

@@ -1,18 +1,18 @@
 //! The command `script`, from its words and the bytes that it reads to the bytes that it writes.
 
 ghost use Rattle.std.specs.Prelude.{◌≡◌, ◌≤◌, None, map, string_bytes};
-ghost use Rattle.sessions.specs.Options.{options_of};
+ghost use Rattle.options.specs.Script.{script_options};
 ghost use Rattle.sessions.specs.Transfers.{ReadFront};
 ghost use Rattle.sessions.specs.World.{World, seen_source, seen_sink, seen_shelf, seen_world};
 ghost use Rattle.sessions.specs.Ended.{EndsAs, IsRun};
-ghost use Rattle.sessions.specs.declared.status.TheConstants.{USAGE};
+ghost use Rattle.options.specs.declared.status.TheConstants.{USAGE};
 
 use crate::failure::{Failure, status_of};
 use crate::input::read_input;
-use crate::options::options_of;
 use crate::run::run_lines;
 use crate::script::Script;
-use crate::status::Status;
+use options::script::script_options;
+use options::status::Status;
 use rm_outside::keeper::Keeper;
 use rm_outside::shelf::Shelf;
 use rm_outside::sink::Sink;
@@ -30,16 +30,16 @@ fn run_words<S: Source, O: Sink, H: Shelf, P: Spool>(
     spool: &mut P,
 ) -> Result<(), Failure>
     ensures reads { ReadFront (S.left input.old) (S.left input.new) }
-    ensures unread { options_of (map string_bytes words.now) ≡ None → input.new ≡ input.old }
+    ensures unread { script_options (map string_bytes words.now) ≡ None → input.new ≡ input.old }
 
     // Whatever else the world has.
-    ensures ends { (old new : World) → EndsAs (options_of (map string_bytes words.now))
+    ensures ends { (old new : World) → EndsAs (script_options (map string_bytes words.now))
         (record old { input = seen_source S.Source input.old; output = seen_sink O.Sink out.old; shelf = seen_shelf H.Shelf shelf.old })
         (record new { input = seen_source S.Source input.new; output = seen_sink O.Sink out.new; shelf = seen_shelf H.Shelf shelf.new }) result }
     ensures files { H.files shelf.new ≡ H.files shelf.old }
     ensures spool { spool.new ≡ spool.old }
 {
-    let Some(options) = options_of(words) else {
+    let Some(options) = script_options(words) else {
         return Err(Failure::Usage);
     };
     let bytes = read_input(alloc, input)?;

@@ -1,7 +1,7 @@
 use Rattle.std.proofs.Common.{◌∙◌, ◌≤◌, arith, sym, ap, cond, None, length, le-leb}
 use Rattle.sessions.proofs.NumbersLemmas.{below-short}
 use Rattle.rm_base.specs.declared.limits.TheConstants.{DIGITS_MOST}
-use Rattle.sessions.specs.Numbers.{numeral_of}
+use Rattle.options.specs.Numeral.{numeral_of}
 use Rattle.sessions.proofs.numbers.script_number.Goals as goal
 
 pub returns : goal.returns

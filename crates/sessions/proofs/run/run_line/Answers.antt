@@ -1,5 +1,6 @@
-use Rattle.std.proofs.Common.{◌∙◌, sym, ap}
+use Rattle.std.proofs.Common.{◌∙◌, ◌++◌, sym, ap}
 use Rattle.sessions.specs.Answered.{answer_text}
+use Rattle.sessions.specs.AnswerTexts.{shown_text}
 use Rattle.sessions.specs.Running.{seen_turn}
 use Rattle.sessions.specs.Turns.{Goes}
 use Rattle.sessions.specs.World.{seen_sink}
@@ -21,3 +22,12 @@ returns-in-Answers-clause-ends g c =
     (λ f err. λ files told. printed-ends files c.args.number c.args.script.now next c.args.line.now (seen_sink g.O.Sink c.args.out.now) (seen_sink g.O.Sink c.write_answer.new.out) (answer_text c.in-Answers.answer) f
     (sym (c.in_ok-text.ensures.turn files told) ∙ ap (λ t. seen_turn t next) c.in-Answers.is) err)
     c.write_answer.ensures.err
+
+pub returns-in-Shows-clause-ends : goal.returns-in-Shows-clause-ends
+returns-in-Shows-clause-ends g c =
+    let next = c.take_line.new.self in
+    let rest = shown_text c.in-Shows.table in
+    if_err-weaker c.write_shown.result _ _
+    (λ f err. λ files told. printed-ends files c.args.number c.args.script.now next c.args.line.now (seen_sink g.O.Sink c.args.out.now) (seen_sink g.O.Sink c.write_shown.new.out) (c.as_str.result.now ++ rest) f
+    (sym (c.in_ok-text.ensures.turn files told) ∙ ap (λ t. seen_turn t next) c.in-Shows.is ∙ ap (λ t. Goes (t ++ rest) next) (sym c.as_str.ensures.value)) err)
+    c.write_shown.ensures.err
