@@ -1,0 +1,14 @@
+pub mod AnswerSizes
+pub mod Asking
+pub mod Choosing
+pub mod EndedLaws
+pub mod Ending
+pub mod Opening
+pub mod Pooling
+pub mod Resting
+pub mod RunLemmas
+pub mod Standing
+pub mod TableLemmas
+pub mod TallyLemmas
+pub mod Texts
+pub mod Written

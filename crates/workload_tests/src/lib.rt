@@ -1,0 +1,5 @@
+//! Tests of generated workloads, from their words to what they print.
+#![tactic(auto)]
+
+#[cfg(test)]
+mod tests;
