@@ -4,8 +4,12 @@
 mod adapters;
 mod system_clock;
 
+ghost use Rattle.std.specs.Prelude.{◌≡◌, Some, IfOk, length, map, string_bytes};
+ghost use Rattle.options.specs.Workload.{workload_options};
+
 use adapters::{FileShelf, ReaderSource, WriterSink};
 use options::status::{DONE, NO_MEMORY, Status, USAGE, WRITE_FAULT};
+use options::workload::WorkloadOptions;
 use options::{Options, options_of};
 use rm_outside::memory_keeper::MemoryKeeper;
 use rm_outside::memory_spool::MemorySpool;
@@ -22,12 +26,12 @@ use workload::workload_main::workload_main;
 const HELP: &str = "poolhost: a query host whose memory is governed by resource pools
 
 usage: poolhost script --memory SIZE --cores COUNT
-       poolhost workload --memory SIZE --cores COUNT --count QUERIES --rows ROWS --seed SEED [--workers N] [--spool DIR]
+       poolhost workload --memory SIZE --cores COUNT --count QUERIES --rows ROWS --seed SEED
 
 SIZE is digits and one of K, M, G, T, from 16M to 1024T; COUNT is 1 to 1024.
 script reads a script from standard input and writes what its lines print.
-workload runs a generated day of queries in three pools and writes a summary of five lines: QUERIES is 0 to 10000, ROWS
-1 to 100000, SEED 0 to 18446744073709551615, N 1 to 64 (all queries run one after the other, and no file is written in DIR).
+workload runs generated queries in three pools, one after the other, and writes a summary of five lines: QUERIES is 0 to
+10000, ROWS 1 to 100000, SEED 0 to 18446744073709551615.
 Lines of a script:
   at N                 moves the script's moment on to N milliseconds
   sql TEXT             defines what a statement says, on pools, users, roles or grants
@@ -49,7 +53,7 @@ Empty lines and lines that begin with # print nothing.";
 
 /// What is told on standard error of words that name no command.
 const USAGE_TEXT: &str = "usage: poolhost script --memory SIZE --cores COUNT
-       poolhost workload --memory SIZE --cores COUNT --count QUERIES --rows ROWS --seed SEED [--workers N] [--spool DIR]";
+       poolhost workload --memory SIZE --cores COUNT --count QUERIES --rows ROWS --seed SEED";
 
 /// The words of the command line, without the program's own.
 fn command_words(rt: &HostRuntime) -> io::Result<Vec<String>> {
@@ -83,7 +87,9 @@ fn kits_of<'a>(
     rt: &'a HostRuntime,
     alloc: Global,
     workers: u32,
-) -> Result<Vec<Kit<MemorySpool, SystemClock<'a, HostRuntime>>>, AllocError> {
+) -> Result<Vec<Kit<MemorySpool, SystemClock<'a, HostRuntime>>>, AllocError>
+    ensures { IfOk result (λ kits. length kits.items ≡ workers) }
+{
     let mut kits = Vec::new(alloc);
     for _ in 0..workers {
         kits.push(Kit {
@@ -95,9 +101,16 @@ fn kits_of<'a>(
 }
 
 /// The command `workload`, over standard output.
-fn run_workload(rt: &HostRuntime, alloc: Global, words: &[String], workers: u32) -> Status {
+fn run_workload(
+    rt: &HostRuntime,
+    alloc: Global,
+    words: &[String],
+    options: WorkloadOptions,
+) -> Status
+    requires { workload_options (map string_bytes words.now) ≡ Some options }
+{
     let mut out = WriterSink::new(rt.stdout());
-    match kits_of(rt, alloc, workers) {
+    match kits_of(rt, alloc, options.workers) {
         Ok(mut kits) => workload_main(alloc, words, &mut out, &mut kits),
         Err(AllocError) => Status(NO_MEMORY),
     }
@@ -105,10 +118,9 @@ fn run_workload(rt: &HostRuntime, alloc: Global, words: &[String], workers: u32)
 
 /// The command that the words name. Words that name none are a script's, which refuses them.
 fn run_command(rt: &HostRuntime, alloc: Global, words: &[String]) -> Status {
-    match options_of(alloc, words) {
-        Ok(Some(Options::Workload(options))) => run_workload(rt, alloc, words, options.workers),
-        Ok(Some(Options::Script(_))) | Ok(None) => run_script(rt, alloc, words),
-        Err(AllocError) => Status(NO_MEMORY),
+    match options_of(words) {
+        Some(Options::Workload(options)) => run_workload(rt, alloc, words, options),
+        Some(Options::Script(_)) | None => run_script(rt, alloc, words),
     }
 }
 

@@ -45,6 +45,7 @@ pub record IsBegun (pool : Name) (grant : ℕ) (s : State) (o : Outcome) : Type 
   pub running : o.state.running ≡ runner ∷ []
   pub own : runner.session ≡ 1
   pub granted : runner.grant ≡ grant
+  pub runs_in : runner.pool ≡ pool
   pub waiting : o.state.waiting ≡ []
   pub journal : counted_entries o.state.journal ≤ counted_entries s.journal + 1
 
@@ -99,6 +100,7 @@ ask-still s pool floor at h known small room few =
       running = alone.running;
       own = refl;
       granted = refl;
+      runs_in = refl;
       waiting = alone.waiting;
       journal = omega (
         arith,

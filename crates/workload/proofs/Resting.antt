@@ -62,6 +62,7 @@ users-reserve (r ∷ rs) begins = omega (arith, eqb-true r.memory 0 (and_right (
 pub record HasSizes (s : State) : Type 0 where
   pub in_force : s.in_force ≡ total s.definitions
   pub sizes : sum s.actual ≡ reserved s.definitions
+  pub free_is : free (holdings_of s) ≡ total s.definitions - reserved s.definitions
 
 pub rested-sizes : (s : State) → IsHealthy s → IsSettled s → s.running ≡ [] → HasSizes s
 rested-sizes s h settles idle =
@@ -73,8 +74,7 @@ rested-sizes s h settles idle =
     let sizes = sizes-turn d (free b) (user_pools d.pools) s.actual h.sized.sizes (found-user d.pools h.sound.pools_distinct) none_run in
     let all = users-reserve d.pools h.sound.general_first in
     let some : 0 < free b = omega (arith, sizes.0, sizes.2, all, lent_none, h.covered.in_force_least, h.sound.quarter_left, h.sound.total_least) in
-    record {
-      in_force = ⊎_elim (λ (over : total d < s.in_force). absurd (omega (arith, some, h.covered.full_above_total over))) (λ (most : s.in_force ≤ total d). omega (arith, most, h.covered.in_force_least))
-          (cases_lt (total d) s.in_force);
-      sizes = omega (arith, sizes.1 some, all);
-    }
+    let force : s.in_force ≡ total d =
+    ⊎_elim (λ (over : total d < s.in_force). absurd (omega (arith, some, h.covered.full_above_total over))) (λ (most : s.in_force ≤ total d). omega (arith, most, h.covered.in_force_least))
+    (cases_lt (total d) s.in_force) in
+    record { in_force = force; sizes = omega (arith, sizes.1 some, all); free_is = omega (arith, force, sizes.1 some, sizes.2, all, lent_none) }

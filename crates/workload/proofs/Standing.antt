@@ -1,6 +1,6 @@
 -- What the calls of the desk of a workload leave, by its standing: rested, or with a query that runs.
 use Rattle.std.proofs.Common.{◌≡◌, ℕ, ◌+◌, ◌*◌, ◌<◌, ◌≤◌, true, false, [], ◌∷◌, List, Some, None, Option, refl, sym, ap, ◌∙◌, subst, arith, ⊎_elim, ◌⊎◌, inl, inr}
-use Rattle.std.specs.Prelude.{option_map, nat_le, sum, IsSome}
+use Rattle.std.specs.Prelude.{option_map, nat_le, sum, IsSome, ◌-◌}
 use Rattle.rm_base.specs.declared.definitions.Definitions.{Definitions}
 use Rattle.rm_base.specs.declared.event.Event.TheVariants.{Define, Open, SetPool, Submit, Finish}
 use Rattle.rm_base.specs.declared.limits.TheConstants.{MEMORY_LEAST, MEMORY_MOST, CORES_MOST, FLOOR_OF_ONE, FLOOR_OF_MORE, SCRIPT_ROOM}
@@ -24,7 +24,7 @@ use Rattle.rm_rules.proofs.Laws.{healthy-step}
 use Rattle.rm_rules.proofs.Taken.{and_left, and_right}
 use Rattle.std.proofs.lemmas.Bool.{leb-true, false≢true}
 use Rattle.workload.specs.Pools.{is_workload_pool, create_w0, create_w1, create_w2, workload_definitions}
-use Rattle.workload.specs.Rested.{LoneSeen, seen_lone, held_by, workload_ask, IsRested, IsAsked, IsLone, admitted_with}
+use Rattle.workload.specs.Rested.{LoneSeen, seen_lone, pool_run_by, held_by, workload_ask, IsRested, IsAsked, IsLone, admitted_with}
 use Rattle.workload.proofs.Choosing.{IsChosen, choice-step}
 use Rattle.workload.proofs.Asking.{IsBegun, ask-step}
 use Rattle.workload.proofs.Ending.{IsEnded, end-step}
@@ -32,13 +32,20 @@ use Rattle.workload.proofs.Pooling.{pool-there, floor-fits}
 use Rattle.workload.proofs.Resting.{HasSizes, rested-sizes}
 use Rattle.workload.proofs.Opening.{HasBegun, begins}
 
--- a rested desk holds nothing, and one with a query that runs holds its grant
-rested-holds : (s : State) (entries : ℕ) → IsRested entries s → held_by s ≡ None
-rested-holds s entries h = ap (λ (l : List Runner). option_map (λ (r : Runner). r.grant) (runner_of l 1)) h.running
+-- a rested desk runs nothing and holds nothing, and one with a query that runs holds its grant in its pool
+pub nobody-runs : (s : State) → s.running ≡ [] → pool_run_by s ≡ None
+nobody-runs s idle = ap (λ (l : List Runner). option_map (λ (r : Runner). r.pool) (runner_of l 1)) idle
+
+pub nobody-holds : (s : State) → s.running ≡ [] → held_by s ≡ None
+nobody-holds s idle = ap (λ (l : List Runner). option_map (λ (r : Runner). r.grant) (runner_of l 1)) idle
 
 pub asked-holds : (s : State) → (r : Runner) → s.running ≡ r ∷ [] → r.session ≡ 1 → held_by s ≡ Some r.grant
 asked-holds s r runs own =
     ap (λ (l : List Runner). option_map (λ (x : Runner). x.grant) (runner_of l 1)) (runs ∙ ap (λ (n : ℕ). (let x : Runner = record r { session = n } in x) ∷ []) own)
+
+in-pool : (s : State) → (r : Runner) → s.running ≡ r ∷ [] → r.session ≡ 1 → pool_run_by s ≡ Some r.pool
+in-pool s r runs own =
+    ap (λ (l : List Runner). option_map (λ (x : Runner). x.pool) (runner_of l 1)) (runs ∙ ap (λ (n : ℕ). (let x : Runner = record r { session = n } in x) ∷ []) own)
 
 -- so what it holds tells how it stands
 pub stands-rested : (s : State) → IsLone s → held_by s ≡ None → IsRested 1 s
@@ -48,23 +55,24 @@ stands-rested s h none =
 
 pub stands-asked : (s : State) (grant : ℕ) → IsLone s → held_by s ≡ Some grant → IsAsked s
 stands-asked s grant h some =
-    ⊎_elim (λ (rested : IsRested 1 s). let both : None ≡ Some grant = sym (rested-holds s 1 rested) ∙ some in absurd (cc)) (λ (asked : IsAsked s). asked) h.stands
+    ⊎_elim (λ (rested : IsRested 1 s). let both : None ≡ Some grant = sym (nobody-holds s rested.running) ∙ some in absurd (cc)) (λ (asked : IsAsked s). asked) h.stands
 
 -- definitions that stay are those of a workload as before
 same-definitions : (d e : Definitions) → e ≡ d → d ≡ workload_definitions d.memory d.cores → e ≡ workload_definitions e.memory e.cores
 same-definitions d e same is = subst (λ (x : Definitions). x ≡ workload_definitions x.memory x.cores) (sym same) is
 
 -- a query has begun
-pub record Begins (s : State) (grant : ℕ) (o : Outcome) : Type 0 where
+pub record Begins (s : State) (pool : Name) (grant : ℕ) (o : Outcome) : Type 0 where
   pub lone : IsLone o.state
   pub reply : admitted_with o.reply ≡ Some grant
   pub definitions : o.state.definitions ≡ s.definitions
   pub last_query : o.state.last_query ≡ s.last_query + 1
+  pub runs_in : pool_run_by o.state ≡ Some pool
   pub held : held_by o.state ≡ Some grant
 
 pub begin-lone : (s : State) (pool : Name) (floor a b : ℕ) → IsHealthy s → IsLone s → held_by s ≡ None → s.last_query < 10000 → is_workload_pool pool ≡ true
     → floor ≤ FLOOR_OF_ONE + FLOOR_OF_MORE
-    → Begins s (workload_ask s.definitions pool floor) (step (step s 0 a (SetPool 1 pool)).state 0 b (Submit 1 floor))
+    → Begins s pool (workload_ask s.definitions pool floor) (step (step s 0 a (SetPool 1 pool)).state 0 b (Submit 1 floor))
 begin-lone s pool floor a b healthy lone none few known low =
     let d = s.definitions in
     let rested = stands-rested s lone none in
@@ -101,6 +109,7 @@ begin-lone s pool floor a b healthy lone none few known low =
       reply = begun.reply ∙ ap (λ (n : ℕ). Some n) grant_is;
       definitions = same;
       last_query = begun.last_query ∙ ap (λ (n : ℕ). n + 1) chosen.last_query;
+      runs_in = in-pool o.state begun.runner begun.running begun.own ∙ ap (λ (p : Name). Some p) begun.runs_in;
       held = asked-holds o.state begun.runner begun.running begun.own ∙ ap (λ (n : ℕ). Some n) (begun.granted ∙ grant_is);
     }
 
@@ -110,6 +119,7 @@ pub record Ends (s : State) (grant : ℕ) (o : Outcome) : Type 0 where
   pub reply : released o.reply ≡ Some grant
   pub definitions : o.state.definitions ≡ s.definitions
   pub last_query : o.state.last_query ≡ s.last_query
+  pub runs_in : pool_run_by o.state ≡ None
   pub held : held_by o.state ≡ None
 
 pub finish-lone : (s : State) (grant at : ℕ) → IsHealthy s → IsLone s → held_by s ≡ Some grant → Ends s grant (step s 0 at (Finish 1))
@@ -136,22 +146,24 @@ finish-lone s grant at healthy lone some =
       reply = ap released ended.reply ∙ ap (λ (n : ℕ). Some n) grant_is;
       definitions = ended.definitions;
       last_query = ended.last_query;
-      held = rested-holds o.state 1 rested;
+      runs_in = nobody-runs o.state ended.running;
+      held = nobody-holds o.state ended.running;
     }
 
 -- the same, as code sees the desk: what it was seen as, and what the machine's calls told
 
 -- a query has begun
-pub record BeginsSeen (seen : LoneSeen) (grant : ℕ) (t : State) (answer : Reply) : Type 0 where
+pub record BeginsSeen (seen : LoneSeen) (pool : Name) (grant : ℕ) (t : State) (answer : Reply) : Type 0 where
   pub lone : IsLone t
   pub reply : admitted_with answer ≡ Some grant
   pub definitions : t.definitions ≡ seen.definitions
   pub begun : t.last_query ≡ seen.begun + 1
+  pub runs_in : pool_run_by t ≡ Some pool
   pub held : held_by t ≡ Some grant
 
 pub begin-seen : (seen : LoneSeen) (s t u : State) (answer : Reply) (pool : Name) (floor a b : ℕ) → seen_lone s ≡ seen → IsHealthy s → IsLone s → seen.held ≡ None
     → seen.begun < 10000 → is_workload_pool pool ≡ true → floor ≤ FLOOR_OF_ONE + FLOOR_OF_MORE → t ≡ (step s 0 a (SetPool 1 pool)).state
-    → u ≡ (step t 0 b (Submit 1 floor)).state → answer ≡ (step t 0 b (Submit 1 floor)).reply → BeginsSeen seen (workload_ask seen.definitions pool floor) u answer
+    → u ≡ (step t 0 b (Submit 1 floor)).state → answer ≡ (step t 0 b (Submit 1 floor)).reply → BeginsSeen seen pool (workload_ask seen.definitions pool floor) u answer
 begin-seen seen s t u answer pool floor a b is healthy lone none few known low chosen asked told_so =
     let d = s.definitions in
     let held : held_by s ≡ None = ap (λ (v : LoneSeen). v.held) is ∙ none in
@@ -167,6 +179,7 @@ begin-seen seen s t u answer pool floor a b is healthy lone none few known low c
       reply = ap admitted_with reply_is ∙ h.reply ∙ ap (λ (n : ℕ). Some n) grant_is;
       definitions = ap (λ (x : State). x.definitions) state_is ∙ h.definitions ∙ same;
       begun = ap (λ (x : State). x.last_query) state_is ∙ h.last_query ∙ ap (λ (n : ℕ). n + 1) count;
+      runs_in = ap pool_run_by state_is ∙ h.runs_in;
       held = ap held_by state_is ∙ h.held ∙ ap (λ (n : ℕ). Some n) grant_is;
     }
 
@@ -178,6 +191,7 @@ pub record EndsSeen (seen : LoneSeen) (t : State) (answer : Reply) : Type 0 wher
   pub reply : released answer ≡ Some grant
   pub definitions : t.definitions ≡ seen.definitions
   pub begun : t.last_query ≡ seen.begun
+  pub runs_in : pool_run_by t ≡ None
   pub held : held_by t ≡ None
 
 some-held : (o : Option ℕ) → IsSome o → (n : ℕ) × (o ≡ Some n)
@@ -196,6 +210,7 @@ finish-seen seen s t answer at is healthy lone some left told_so =
       reply = ap released told_so ∙ h.reply;
       definitions = ap (λ (x : State). x.definitions) left ∙ h.definitions ∙ ap (λ (v : LoneSeen). v.definitions) is;
       begun = ap (λ (x : State). x.last_query) left ∙ h.last_query ∙ ap (λ (v : LoneSeen). v.begun) is;
+      runs_in = ap pool_run_by left ∙ h.runs_in;
       held = ap held_by left ∙ h.held;
     }
 
@@ -203,6 +218,7 @@ finish-seen seen s t answer at is healthy lone some left told_so =
 pub record SizesSeen (seen : LoneSeen) (s : State) : Type 0 where
   pub in_force : s.in_force ≡ total seen.definitions
   pub sizes : sum s.actual ≡ reserved seen.definitions
+  pub free_is : seen.free ≡ total seen.definitions - reserved seen.definitions
   pub within : reserved seen.definitions ≤ total seen.definitions
   pub most : total seen.definitions ≤ MEMORY_MOST
 
@@ -215,6 +231,7 @@ sizes-seen seen s is healthy lone none =
     let mine : SizesSeen (seen_lone s) s = record {
       in_force = h.in_force;
       sizes = h.sizes;
+      free_is = h.free_is;
       within = healthy.sound.reserved_most;
       most = omega (arith, healthy.sound.total_most, memory);
     } in
@@ -244,5 +261,3 @@ new-begun memory cores at d s s0 s1 s2 s3 p0 p1 p2 user memory_least memory_most
     let e3 : s3 ≡ (step t2 0 at (Open dbadmin)).state = follow-open s2 t2 s3 user dbadmin at e2 user_is h3 in
     subst (HasBegun memory cores) (sym e3) (begins memory cores at at at at memory_least memory_most cores_least cores_most)
 
-pub nobody-holds : (s : State) → s.running ≡ [] → held_by s ≡ None
-nobody-holds s idle = ap (λ (l : List Runner). option_map (λ (r : Runner). r.grant) (runner_of l 1)) idle

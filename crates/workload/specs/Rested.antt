@@ -10,17 +10,22 @@ use Rattle.rm_rules.specs.declared.state.Phase.{Phase}
 use Rattle.rm_rules.specs.declared.state.Phase.TheVariants as phase
 use Rattle.rm_rules.specs.declared.state.Runner.{Runner}
 use Rattle.rm_rules.specs.declared.state.Session.{Session}
+use Rattle.rm_rules.specs.Accounting.{free}
 use Rattle.rm_rules.specs.Ask.{ask}
 use Rattle.rm_rules.specs.Definitions.{pool_row}
+use Rattle.rm_rules.specs.Holdings.{holdings_of}
 use Rattle.rm_rules.specs.Settled.{IsSettled}
 use Rattle.rm_rules.specs.State.{State, runner_of, counted_entries}
 use Rattle.workload.specs.Pools.{workload_definitions}
 
--- what the desk is seen as: its definitions, how many queries have begun, and what the one that runs holds, in bytes
+-- what the desk is seen as: its definitions, how many queries have begun, the pool of the one that runs, what that holds,
+-- and what GENERAL has free, in bytes
 pub record LoneSeen : Type 0 where
   pub definitions : Definitions
   pub begun : ℕ
+  pub runs_in : Option Name
   pub held : Option ℕ
+  pub free : ℕ
 
 -- the grant of a query of this floor in the pool, by the rules
 abbrev pub workload_ask : Definitions → Name → ℕ → ℕ
@@ -30,12 +35,21 @@ workload_ask d pool floor = ask d (pool_row d pool) dbadmin floor
 abbrev pub own_session : Option Name → Phase → Session
 own_session pool now = record { number = 1; seat = 0; user = dbadmin; pool = pool; cap_ms = None; phase = now }
 
--- what the session's running query holds
+-- the pool of the session's running query, and what that holds
+abbrev pub pool_run_by : State → Option Name
+pool_run_by s = option_map (λ r. r.pool) (runner_of s.running 1)
+
 abbrev pub held_by : State → Option ℕ
 held_by s = option_map (λ r. r.grant) (runner_of s.running 1)
 
 abbrev pub seen_lone : State → LoneSeen
-seen_lone s = record { definitions = s.definitions; begun = s.last_query; held = held_by s }
+seen_lone s = record {
+  definitions = s.definitions;
+  begun = s.last_query;
+  runs_in = pool_run_by s;
+  held = held_by s;
+  free = free (holdings_of s);
+}
 
 -- between two queries: the session is idle, and nobody runs or waits. Each query has made three entries at most
 pub record IsRested (entries : ℕ) (s : State) : Type 0 where

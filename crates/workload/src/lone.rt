@@ -51,6 +51,7 @@ impl Lone {
         requires cores_most { cores ≤ CORES_MOST }
         ensures definitions { IfOk result (λ lone. lone.definitions ≡ workload_definitions memory cores) }
         ensures begun { IfOk result (λ lone. lone.begun ≡ 0) }
+        ensures runs_in { IfOk result (λ lone. lone.runs_in ≡ None) }
         ensures held { IfOk result (λ lone. lone.held ≡ None) }
     {
         let definitions = Definitions::new(alloc, memory, cores)?;
@@ -73,6 +74,7 @@ impl Lone {
         ensures grant { result ≡ workload_ask self.old.definitions pool floor }
         ensures definitions { self.new.definitions ≡ self.old.definitions }
         ensures begun { self.new.begun ≡ self.old.begun + 1 }
+        ensures runs_in { self.new.runs_in ≡ Some pool }
         ensures held { self.new.held ≡ Some result }
     {
         // For the proof alone: what every desk keeps, as the history's clauses say.
@@ -92,6 +94,7 @@ impl Lone {
         ensures grant { self.old.held ≡ Some result }
         ensures definitions { self.new.definitions ≡ self.old.definitions }
         ensures begun { self.new.begun ≡ self.old.begun }
+        ensures runs_in { self.new.runs_in ≡ None }
         ensures held { self.new.held ≡ None }
     {
         let _entries = self.desk.entries();
@@ -103,7 +106,8 @@ impl Lone {
     /// GENERAL's free bytes, while no query runs.
     pub fn free(&self, alloc: Global) -> Result<u64, AllocError>
         requires { self.now.held ≡ None }
-        ensures { IfOk result (λ free. free ≡ total self.now.definitions - reserved self.now.definitions) }
+        ensures general { IfOk result (λ free. free ≡ self.now.free) }
+        ensures unreserved { IfOk result (λ free. free ≡ total self.now.definitions - reserved self.now.definitions) }
     {
         let _entries = self.desk.entries();
         let looked = self.desk.look(alloc)?;

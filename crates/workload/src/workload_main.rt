@@ -23,11 +23,11 @@ fn run_words<O: Sink, P: Spool, C: Clock>(
     kits: &mut Vec<Kit<P, C>>,
 ) -> Result<(), Failure>
     requires { HasKits (map string_bytes words.now) (length kits.old.items) }
-    ensures { EndsAs (workload_options (map string_bytes words.now)) (seen_sink O.Sink out.old) (seen_sink O.Sink out.new) result }
+    ensures ends { EndsAs (workload_options (map string_bytes words.now)) (seen_sink O.Sink out.old) (seen_sink O.Sink out.new) result }
+    ensures later { O.faults out.old ≤ O.faults out.new }
+    ensures spools { map (λ kit. kit.spool) kits.new.items ≡ map (λ kit. kit.spool) kits.old.items }
 {
-    let Some(options) = workload_options(alloc, words)? else {
-        return Err(Failure::Usage);
-    };
+    let options = workload_options(words).ok_or(Failure::Usage)?;
     let text = run_workload(alloc, &options, &mut kits[0])?;
     write_text(out, text.as_bytes())
 }
@@ -35,7 +35,8 @@ fn run_words<O: Sink, P: Spool, C: Clock>(
 /// Does all that `poolhost workload` does: reads the words of the command line, runs the queries of a generated workload
 /// one after the other, and writes what they came to.
 ///
-/// It always returns. The first kit's worker runs all queries; what the clock says changes nothing that is written.
+/// It always returns. The first kit's worker runs all queries; what the clock says changes nothing that is written, and the
+/// kits' spools stay as they were.
 pub fn workload_main<O: Sink, P: Spool, C: Clock>(
     alloc: Global,
     words: &[String],
@@ -44,6 +45,8 @@ pub fn workload_main<O: Sink, P: Spool, C: Clock>(
 ) -> Status
     requires { HasKits (map string_bytes words.now) (length kits.old.items) }
     ensures run { IsWorkload (map string_bytes words.now) (seen_sink O.Sink out.old) (seen_sink O.Sink out.new) result.0 }
+    ensures later { O.faults out.old ≤ O.faults out.new }
+    ensures spools { map (λ kit. kit.spool) kits.new.items ≡ map (λ kit. kit.spool) kits.old.items }
 {
     status_of(run_words(alloc, words, out, kits))
 }

@@ -41,10 +41,7 @@ fn kits_at(alloc: Global, count: u32, at: u64) -> Result<Vec<Kit<MemorySpool, Me
 /// Whether the words of a line, run at a moment, end with the status and print the text.
 fn prints(alloc: Global, line: &str, at: u64, status: u8, text: &str) -> Result<bool, Fail> {
     let words = words_of(alloc, line)?;
-    let workers = match workload_options(alloc, &words)? {
-        Some(options) => options.workers,
-        None => 0,
-    };
+    let workers = workload_options(&words).map_or(0, |options| options.workers);
     let mut kits = kits_at(alloc, workers, at)?;
     let mut out = MemorySink::new(alloc);
     let ended = workload_main(alloc, &words, &mut out, &mut kits);

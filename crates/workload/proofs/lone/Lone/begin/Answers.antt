@@ -46,6 +46,14 @@ returns-clause-begun c =
     (ap (λ (x : DeskState). x.state) c.apply.ensures.state) (ap (λ (x : DeskState). x.state) c.apply-answered.ensures.state) c.apply-answered.ensures.reply in
     h.begun
 
+pub returns-clause-runs_in : goal.returns-clause-runs_in
+returns-clause-runs_in c =
+    let h =
+    begin-seen c.args.self.now c.self.inside.desk.state c.apply.new.self.state c.apply-answered.new.self.state c.apply-answered.result.reply c.args.pool c.args.floor
+    c.args.chosen_at c.args.asked_at c.self.view_is c.entries-entries.ensures.healthy c.self.invariant c.requires.rested c.requires.few c.requires.pool c.requires.floor
+    (ap (λ (x : DeskState). x.state) c.apply.ensures.state) (ap (λ (x : DeskState). x.state) c.apply-answered.ensures.state) c.apply-answered.ensures.reply in
+    h.runs_in
+
 pub returns-clause-held : goal.returns-clause-held
 returns-clause-held c =
     let h =
