@@ -32,7 +32,9 @@ impl<'a, C: time::Clock> SystemClock<'a, C> {
     /// The milliseconds since it was made, where the system tells them.
     fn elapsed(&self) -> u64 {
         match self.system.monotonic() {
-            Ok(time) => u64::try_from(time.saturating_sub(self.began).as_millis()).unwrap_or(u64::MAX),
+            Ok(time) => u64::try_from(time.saturating_sub(self.began).as_millis()).unwrap_or(
+                u64::MAX,
+            ),
             Err(_) => 0,
         }
     }

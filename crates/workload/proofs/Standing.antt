@@ -260,4 +260,3 @@ new-begun memory cores at d s s0 s1 s2 s3 p0 p1 p2 user memory_least memory_most
     let e2 : s2 ≡ t2 = follow s1 t1 s2 p2 create_w2 at e1 w2_is h2 in
     let e3 : s3 ≡ (step t2 0 at (Open dbadmin)).state = follow-open s2 t2 s3 user dbadmin at e2 user_is h3 in
     subst (HasBegun memory cores) (sym e3) (begins memory cores at at at at memory_least memory_most cores_least cores_most)
-
