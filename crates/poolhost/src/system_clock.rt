@@ -10,34 +10,30 @@ use std::time::{self, Duration};
 /// How long a pause is, in milliseconds.
 const PAUSE_MS: u64 = 1;
 
-/// The system's clock, counted from when this one was made. Where the system can't tell the time, the last moment stands.
+/// The system's clock, counted from the first time that it told. Where the system can't tell the time, the last moment stands.
 #[derive(Drop)]
 pub struct SystemClock<'a, C: time::Clock> {
     system: &'a C,
-    began: Duration,
+    began: Option<Duration>,
     latest: Moment,
     asked: u64,
 }
 
 impl<'a, C: time::Clock> SystemClock<'a, C> {
+    /// A clock that counts from now.
     pub fn new(system: &'a C) -> SystemClock<'a, C> {
         SystemClock {
             system,
-            began: system.monotonic().unwrap_or(Duration::ZERO),
+            began: system.monotonic().ok(),
             latest: Moment::of(0),
             asked: 0,
         }
     }
+}
 
-    /// The milliseconds since it was made, where the system tells them.
-    fn elapsed(&self) -> u64 {
-        match self.system.monotonic() {
-            Ok(time) => u64::try_from(time.saturating_sub(self.began).as_millis()).unwrap_or(
-                u64::MAX,
-            ),
-            Err(_) => 0,
-        }
-    }
+/// The milliseconds from one time to another.
+fn millis_between(began: Duration, time: Duration) -> u64 {
+    u64::try_from(time.saturating_sub(began).as_millis()).unwrap_or(u64::MAX)
 }
 
 impl<'a, C: time::Clock> Clock for SystemClock<'a, C> {
@@ -49,7 +45,11 @@ impl<'a, C: time::Clock> Clock for SystemClock<'a, C> {
 
     fn now(&mut self) -> Moment {
         self.asked = self.asked.saturating_add(1);
-        self.latest = self.latest.later(Moment::of(self.elapsed()));
+        if let Ok(time) = self.system.monotonic() {
+            let began = self.began.unwrap_or(time);
+            self.began = Some(began);
+            self.latest = self.latest.later(Moment::of(millis_between(began, time)));
+        }
         self.latest
     }
 

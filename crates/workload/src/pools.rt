@@ -56,6 +56,7 @@ fn no_timeout() -> PoolChange
     }
 }
 
+/// The first pool reserves a tenth of the total for two queries at a time.
 pub fn create_w0() -> Statement
     ensures { result ≡ create_w0 }
 {
@@ -67,12 +68,14 @@ pub fn create_w0() -> Statement
     Statement::CreatePool(w0(), change)
 }
 
+/// The second pool has the defaults.
 pub fn create_w1() -> Statement
     ensures { result ≡ create_w1 }
 {
     Statement::CreatePool(w1(), no_timeout())
 }
 
+/// The third pool has a tenth of the total alone, for one query at a time.
 pub fn create_w2() -> Statement
     ensures { result ≡ create_w2 }
 {

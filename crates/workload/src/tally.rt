@@ -69,24 +69,28 @@ impl Tally {
         self.rows += answer.len() as u64;
     }
 
+    /// How many queries are completed.
     pub fn queries(&self) -> u32
         ensures { result ≡ self.now.queries }
     {
         self.queries
     }
 
+    /// How many rows their answers have.
     pub fn rows(&self) -> u64
         ensures { result ≡ self.now.rows }
     {
         self.rows
     }
 
+    /// The sum of the first column of these rows, in which Null counts 0.
     pub fn total(&self) -> i128
         ensures { result ≡ self.now.total }
     {
         self.total.sum()
     }
 
+    /// The sum of all grants, in bytes.
     pub fn granted(&self) -> u128
         ensures { result ≡ self.now.granted }
     {

@@ -1,10 +1,12 @@
 //! Workloads, by their words and under different clocks.
 
-ghost use Rattle.std.specs.Prelude.{◌≡◌, ◌≤◌, length, IfOk};
+ghost use Rattle.std.specs.Prelude.{length, map, string_bytes, IfOk};
+ghost use Rattle.workload.specs.Ended.{HasKits};
 
-use options::status::{DONE, USAGE};
+use options::status::{DONE, Status, USAGE, WRITE_FAULT};
 use options::workload::workload_options;
 use rm_base::moment::Moment;
+use rm_outside::failing_sink::FailingSink;
 use rm_outside::memory_clock::MemoryClock;
 use rm_outside::memory_sink::MemorySink;
 use rm_outside::memory_spool::MemorySpool;
@@ -22,12 +24,20 @@ fn words_of(alloc: Global, line: &str) -> Result<Vec<String>, Fail> {
     Ok(words)
 }
 
-/// So many kits, whose clocks stand still at a moment.
-fn kits_at(alloc: Global, count: u32, at: u64) -> Result<Vec<Kit<MemorySpool, MemoryClock>>, Fail>
-    ensures { IfOk result (λ kits. length kits.items ≡ count) }
+/// A kit for each worker that the words name, whose clocks stand still at a moment.
+fn kits_for(
+    alloc: Global,
+    words: &[String],
+    at: u64,
+) -> Result<Vec<Kit<MemorySpool, MemoryClock>>, Fail>
+    ensures { IfOk result (λ kits. HasKits (map string_bytes words.now) (length kits.items)) }
 {
+    let workers = match workload_options(words) {
+        Some(options) => options.workers,
+        None => 0,
+    };
     let mut kits = Vec::new(alloc);
-    for _ in 0..count {
+    for _ in 0..workers {
         let mut moments = Vec::new(alloc);
         moments.push(Moment::of(at))?;
         kits.push(Kit {
@@ -38,14 +48,19 @@ fn kits_at(alloc: Global, count: u32, at: u64) -> Result<Vec<Kit<MemorySpool, Me
     Ok(kits)
 }
 
+/// The status with which the words of a line, run at a moment, end, and what they print.
+fn run_at(alloc: Global, line: &str, at: u64) -> Result<(Status, Vec<u8>), Fail> {
+    let words = words_of(alloc, line)?;
+    let mut kits = kits_for(alloc, &words, at)?;
+    let mut out = MemorySink::new(alloc);
+    let status = workload_main(alloc, &words, &mut out, &mut kits);
+    Ok((status, out.contents().to_vec(alloc)?))
+}
+
 /// Whether the words of a line, run at a moment, end with the status and print the text.
 fn prints(alloc: Global, line: &str, at: u64, status: u8, text: &str) -> Result<bool, Fail> {
-    let words = words_of(alloc, line)?;
-    let workers = workload_options(&words).map_or(0, |options| options.workers);
-    let mut kits = kits_at(alloc, workers, at)?;
-    let mut out = MemorySink::new(alloc);
-    let ended = workload_main(alloc, &words, &mut out, &mut kits);
-    Ok(ended.0 == status && out.contents() == text.as_bytes())
+    let (ended, printed) = run_at(alloc, line, at)?;
+    Ok(ended.0 == status && printed.as_slice() == text.as_bytes())
 }
 
 static SMALL: &str = "workload --memory 100M --cores 8 --count 3 --rows 1000 --seed 1";
@@ -79,6 +94,46 @@ fn a_workload_of_no_queries_prints_zeros(rt: HostRuntime) -> Result<(), Fail> {
     let alloc = rt.alloc();
     assert!(rt; prints(alloc, NONE, 0, DONE, NONE_PRINTS)?);
     assert!(rt; prints(alloc, "workload --count 1", 0, USAGE, "")?);
+    Ok(())
+}
+
+static LARGE: &str = "workload --memory 1G --cores 8 --count 3 --rows 10000 --seed 7";
+
+static LARGE_PRINTS: &str = "queries 3
+rows 102
+total 114950
+granted 395271207
+free 816043786
+";
+
+static MANY: &str = "workload --memory 1G --cores 8 --count 200 --rows 10000 --seed 7";
+
+#[test]
+fn a_workload_of_larger_tables_prints_their_sums(rt: HostRuntime) -> Result<(), Fail> {
+    let alloc = rt.alloc();
+    assert!(rt; prints(alloc, LARGE, 0, DONE, LARGE_PRINTS)?);
+    Ok(())
+}
+
+#[test]
+fn two_runs_of_200_queries_print_the_same_lines(rt: HostRuntime) -> Result<(), Fail> {
+    let alloc = rt.alloc();
+    let (_, first) = run_at(alloc, MANY, 0)?;
+    let (_, second) = run_at(alloc, MANY, 5)?;
+    assert!(rt; first.as_slice().starts_with(b"queries 200\n"));
+    assert!(rt; first.as_slice() == second.as_slice());
+    Ok(())
+}
+
+#[test]
+fn a_failing_output_ends_a_workload_with_its_status(rt: HostRuntime) -> Result<(), Fail> {
+    let alloc = rt.alloc();
+    let words = words_of(alloc, NONE)?;
+    let mut kits = kits_for(alloc, &words, 0)?;
+    let mut out = FailingSink::new(alloc, [1].to_vec(alloc)?);
+    let ended = workload_main(alloc, &words, &mut out, &mut kits);
+    assert_eq!(rt; ended.0, WRITE_FAULT);
+    assert!(rt; out.contents().is_empty());
     Ok(())
 }
 

@@ -4,6 +4,7 @@ use super::{compare, run_cases};
 use std::test::Fail;
 
 static ON_A_LARGER_MACHINE: &str = "\
+show resource_pool_status
 sql CREATE RESOURCE POOL ceo_pool MEMORYSIZE '1800M' PRIORITY 10
 show resource_pool_status
 show resource_pools
@@ -12,6 +13,8 @@ show resource_pools
 /// T is 95 percent of 16 GiB, of which ceo_pool reserves 1800 MiB. AUTO stands for 7, since 7 times 2 GiB fit into T.
 static ON_A_LARGER_MACHINE_EXPECTED: &str = "\
 0
+pool_name,memory_size,memory_size_actual,max_memory_size,memory_in_use,memory_borrowed,queueing_threshold,query_budget,running,waiting
+general,16320875724,16320875724,16320875724,0,0,15504831937,2214975991,0,0
 ok
 pool_name,memory_size,memory_size_actual,max_memory_size,memory_in_use,memory_borrowed,queueing_threshold,query_budget,running,waiting
 general,14433438924,14433438924,16320875724,0,0,15504831937,2214975991,0,0
@@ -244,6 +247,7 @@ at,session,query,source,target,ran
 3002,3,3,quick,tiny,2001
 ====
 # A pool that is made while most of the memory is in use begins with what is free, and grows as queries end.
+sql ALTER RESOURCE POOL general MAXMEMORYSIZE '80M'
 open a dbadmin
 open b dbadmin
 open c dbadmin
@@ -252,29 +256,37 @@ ask a 1
 ask b 1
 ask c 1
 ask d 1
-sql CREATE RESOURCE POOL r MEMORYSIZE '20M'
+sql CREATE RESOURCE POOL r MEMORYSIZE '30M'
 show resource_pool_status
 done a
 show resource_pool_status
+done b
+show resource_pool_status
 ---- 0
+ok
 a opened 1
 b opened 2
 c opened 3
 d opened 4
-a admitted 23658496 general 23658496 0
-b admitted 23658496 general 23658496 0
-c admitted 23658496 general 23658496 0
-d admitted 23658496 general 23658496 0
+a admitted 19922944 general 19922944 0
+b admitted 19922944 general 19922944 0
+c admitted 19922944 general 19922944 0
+d admitted 19922944 general 19922944 0
 ok
 pool_name,memory_size,memory_size_actual,max_memory_size,memory_in_use,memory_borrowed,queueing_threshold,query_budget,running,waiting
-general,78643200,94633984,99614720,94633984,0,94633984,23658496,4,0
-r,20971520,4980736,,0,0,94633984,5242880,0,0
-a released 23658496
+general,52428800,79691776,83886080,79691776,0,79691776,19922944,4,0
+r,31457280,4194304,,0,0,79691776,7864320,0,0
+a released 19922944
 pool_name,memory_size,memory_size_actual,max_memory_size,memory_in_use,memory_borrowed,queueing_threshold,query_budget,running,waiting
-general,78643200,78643200,99614720,70975488,0,94633984,23658496,3,0
-r,20971520,20971520,,0,0,94633984,5242880,0,0
+general,52428800,59768832,83886080,59768832,0,79691776,19922944,3,0
+r,31457280,24117248,,0,0,79691776,7864320,0,0
+b released 19922944
+pool_name,memory_size,memory_size_actual,max_memory_size,memory_in_use,memory_borrowed,queueing_threshold,query_budget,running,waiting
+general,52428800,52428800,83886080,39845888,0,79691776,19922944,2,0
+r,31457280,31457280,,0,0,79691776,7864320,0,0
 ====
 # A total that is lowered below what is in use is in force as queries end.
+sql ALTER RESOURCE POOL general MAXMEMORYSIZE '80M'
 open a dbadmin
 open b dbadmin
 open c dbadmin
@@ -286,29 +298,33 @@ ask d 1
 sql ALTER RESOURCE POOL general MAXMEMORYSIZE '30M'
 show resource_pool_status
 done a
+show resource_pool_status
 done b
 show resource_pool_status
 done c
 show resource_pool_status
 ---- 0
+ok
 a opened 1
 b opened 2
 c opened 3
 d opened 4
-a admitted 23658496 general 23658496 0
-b admitted 23658496 general 23658496 0
-c admitted 23658496 general 23658496 0
-d admitted 23658496 general 23658496 0
+a admitted 19922944 general 19922944 0
+b admitted 19922944 general 19922944 0
+c admitted 19922944 general 19922944 0
+d admitted 19922944 general 19922944 0
 ok
 pool_name,memory_size,memory_size_actual,max_memory_size,memory_in_use,memory_borrowed,queueing_threshold,query_budget,running,waiting
-general,31457280,94633984,31457280,94633984,0,29884416,7471104,4,0
-a released 23658496
-b released 23658496
+general,31457280,79691776,31457280,79691776,0,29884416,7471104,4,0
+a released 19922944
 pool_name,memory_size,memory_size_actual,max_memory_size,memory_in_use,memory_borrowed,queueing_threshold,query_budget,running,waiting
-general,31457280,47316992,31457280,47316992,0,29884416,7471104,2,0
-c released 23658496
+general,31457280,59768832,31457280,59768832,0,29884416,7471104,3,0
+b released 19922944
 pool_name,memory_size,memory_size_actual,max_memory_size,memory_in_use,memory_borrowed,queueing_threshold,query_budget,running,waiting
-general,31457280,31457280,31457280,23658496,0,29884416,7471104,1,0
+general,31457280,39845888,31457280,39845888,0,29884416,7471104,2,0
+c released 19922944
+pool_name,memory_size,memory_size_actual,max_memory_size,memory_in_use,memory_borrowed,queueing_threshold,query_budget,running,waiting
+general,31457280,31457280,31457280,19922944,0,29884416,7471104,1,0
 ====
 show
 ---- 2
