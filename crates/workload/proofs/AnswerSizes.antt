@@ -1,5 +1,5 @@
 -- How many rows an answer has.
-use Rattle.std.proofs.Common.{◌≡◌, ℕ, ◌+◌, ◌*◌, ◌≤◌, Bool, true, false, cond, List, [], ◌∷◌, length, Option, Some, None, refl, ap, ◌∙◌, subst, arith}
+use Rattle.std.proofs.Common.{◌≡◌, ℕ, ◌+◌, ◌*◌, ◌≤◌, Bool, true, false, cond, List, [], ◌∷◌, length, map, Option, Some, None, refl, ap, ◌∙◌, subst, arith}
 use Rattle.std.specs.Prelude.{ℤ, nat_le}
 use Rattle.std.proofs.lemmas.Bool.Decides.{nat_tests}
 use Rattle.std.proofs.lemmas.List.Sums.{sum_by-cons}
@@ -20,7 +20,7 @@ use Rattle.query_run.specs.Running.{RunOutcome, run_outcome}
 use Rattle.query_run.specs.Running.RunOutcome.{Meant, Spills}
 
 -- an answer measures no more than an answer may
-IsSmall : SelectOutcome → Type 0
+abbrev IsSmall : SelectOutcome → Type 0
 IsSmall (Answer rows) = rows_measure rows ≤ ANSWER_MOST
 IsSmall (SumOutOfRange column sum) = Unit {0}
 IsSmall (AnswerTooLarge rows) = Unit {0}
@@ -37,7 +37,7 @@ groups_small (Some bad) order rows = tt
 groups_small None order rows = answer_small (in_order order rows)
 
 of_small : (items : List Item) (order : OrderSpec) (groups : Option (List ℕ)) (rows : List (List Value)) → IsSmall (meant_of items order groups rows)
-of_small items order None rows = answer_small (in_order order _)
+of_small items order None rows = answer_small (in_order order (map (shown items) rows))
 of_small items order (Some keys) rows = groups_small (first_bad (record { keys = keys; items = items }) rows) order (grouped (record { keys = keys; items = items }) rows)
 
 least_measure : (rows : List (List Value)) → 16 * length rows ≤ rows_measure rows

@@ -1,5 +1,5 @@
 -- What each end of a workload says of its status, and of what was written.
-use Rattle.std.proofs.Common.{◌≡◌, ◌≢◌, ◌⊎◌, inl, inr, ℕ, List, [], Option, Some, None, Result, Ok, Err, refl, sym, ap, ◌∙◌, subst, append-nil}
+use Rattle.std.proofs.Common.{◌≡◌, ◌≢◌, ◌⊎◌, inl, inr, ℕ, List, [], Option, Some, None, Result, Ok, Err, refl, sym, ap, ◌∙◌, subst, append-nil, arith}
 use Rattle.std.specs.Option.{IsSome}
 use Rattle.std.specs.Io.KnownBytes.{Appends, Keeps}
 use Rattle.std.proofs.lemmas.Bool.{false≢true}
@@ -48,26 +48,26 @@ known (Err Memory) = inr (inr (inr refl))
 
 own : (o : Option WorkloadOptions) (old new : Output) (r : Ended) → EndsAs o old new r → status_of r ≡ DONE → WroteWhole old new (text_by o)
 own o old new (Ok done) h is = h.1
-own o old new (Err Usage) h is = absurd (omega is)
-own o old new (Err WriteFault) h is = absurd (omega is)
-own o old new (Err Memory) h is = absurd (omega is)
+own o old new (Err Usage) h is = absurd (omega (arith, is))
+own o old new (Err WriteFault) h is = absurd (omega (arith, is))
+own o old new (Err Memory) h is = absurd (omega (arith, is))
 
 usage : (o : Option WorkloadOptions) (old new : Output) (r : Ended) → EndsAs o old new r → status_of r ≡ USAGE → (o ≡ None) × Keeps old.told new.told
-usage o old new (Ok done) h is = absurd (omega is)
+usage o old new (Ok done) h is = absurd (omega (arith, is))
 usage o old new (Err Usage) h is = h
-usage o old new (Err WriteFault) h is = absurd (omega is)
-usage o old new (Err Memory) h is = absurd (omega is)
+usage o old new (Err WriteFault) h is = absurd (omega (arith, is))
+usage o old new (Err Memory) h is = absurd (omega (arith, is))
 
 write_fault : (o : Option WorkloadOptions) (old new : Output) (r : Ended) → EndsAs o old new r → status_of r ≡ WRITE_FAULT → WroteFront old new (text_by o) × HasFailed old new
-write_fault o old new (Ok done) h is = absurd (omega is)
-write_fault o old new (Err Usage) h is = absurd (omega is)
+write_fault o old new (Ok done) h is = absurd (omega (arith, is))
+write_fault o old new (Err Usage) h is = absurd (omega (arith, is))
 write_fault o old new (Err WriteFault) h is = (h.1, h.2)
-write_fault o old new (Err Memory) h is = absurd (omega is)
+write_fault o old new (Err Memory) h is = absurd (omega (arith, is))
 
 no_memory : (o : Option WorkloadOptions) (old new : Output) (r : Ended) → EndsAs o old new r → status_of r ≡ NO_MEMORY → WroteFront old new (text_by o)
-no_memory o old new (Ok done) h is = absurd (omega is)
-no_memory o old new (Err Usage) h is = absurd (omega is)
-no_memory o old new (Err WriteFault) h is = absurd (omega is)
+no_memory o old new (Ok done) h is = absurd (omega (arith, is))
+no_memory o old new (Err Usage) h is = absurd (omega (arith, is))
+no_memory o old new (Err WriteFault) h is = absurd (omega (arith, is))
 no_memory o old new (Err Memory) h is = h.1
 
 front : (o : Option WorkloadOptions) (old new : Output) (r : Ended) → EndsAs o old new r → (status_of r ≡ WRITE_FAULT) ⊎ (status_of r ≡ NO_MEMORY) → WroteFront old new (text_by o)

@@ -1,5 +1,5 @@
 -- What one query more adds.
-use Rattle.std.proofs.Common.{◌≡◌, ℕ, zero, suc, ◌+◌, ◌*◌, ◌^◌, ◌≤◌, ◌<◌, Bool, true, false, cond, List, [], ◌∷◌, ◌++◌, append-nil, map, length, take, get_or, slice_get, Option, Some, None, refl, sym, ap, ◌∙◌, subst, arith}
+use Rattle.std.proofs.Common.{◌≡◌, ℕ, zero, suc, ◌+◌, ◌-◌, ◌*◌, ◌^◌, ◌≤◌, ◌<◌, Bool, true, false, cond, List, [], ◌∷◌, ◌++◌, append-nil, map, length, take, get_or, slice_get, Option, Some, None, refl, sym, ap, ◌∙◌, subst, arith}
 use Rattle.std.specs.Prelude.{ℤ, pos, ◌+ℤ◌, sum_by, nat_lt}
 use Rattle.std.specs.Option.{option_copied}
 use denote.Ref.{Bor}
@@ -25,7 +25,7 @@ use Rattle.workload.specs.Summary.{Tallied, answer_in, answers_to, ending_at, fi
 use Rattle.workload.specs.Tallying.{completed, ended, granted}
 
 -- the numbers up to one more
-pub range_more : (a n : ℕ) → range_with_len a (n + 1) ≡ range_with_len a n ++ (a + n) ∷ []
+range_more : (a n : ℕ) → range_with_len a (n + 1) ≡ range_with_len a n ++ (a + n) ∷ []
 range_more a n = (let more : n + 1 ≡ suc n = omega arith in ap (range_with_len a) more) ∙ go n a
   where
     go : (n a : ℕ) → range_with_len a (suc n) ≡ range_with_len a n ++ (a + n) ∷ []
@@ -33,6 +33,9 @@ range_more a n = (let more : n + 1 ≡ suc n = omega arith in ap (range_with_len
     go (suc n) a =
         let e : a + 1 + n ≡ a + suc n = omega arith in
         ap {B = List ℕ} (λ l. a ∷ l) (go n (a + 1)) ∙ ap (λ x. a ∷ (range_with_len (a + 1) n ++ x ∷ [])) e
+
+from_zero : (n : ℕ) → range_with_len 0 (n + 1) ≡ range_with_len 0 n ++ n ∷ []
+from_zero n = let same : 0 + n ≡ n = omega arith in range_more 0 n ∙ ap {B = List ℕ} (λ x. range_with_len 0 n ++ x ∷ []) same
 
 length_range : (a n : ℕ) → length (range_with_len a n) ≡ n
 length_range a zero = refl
@@ -59,7 +62,7 @@ tally_of answers grants = record {
 }
 
 none_more : (answers : List (List (List Value))) (grants : ℕ) → tally_of (answers ++ []) grants ≡ tally_of answers grants
-none_more answers grants = ap (λ (xs : List (List (List Value))). tally_of xs grants) (sym (append-nil answers))
+none_more answers grants = ap (λ (xs : List (List (List Value))). tally_of xs grants) (append-nil answers)
 
 query_more : (answers : List (List (List Value))) (grants grant : ℕ) (ending : RunOutcome)
     → tally_of (answers ++ cons_option (answer_in ending) []) (grants + grant) ≡ ended (granted (tally_of answers grants) grant) ending
@@ -67,7 +70,7 @@ query_more answers grants grant (Meant (Answer rows)) =
     let count : length (answers ++ rows ∷ []) ≡ length answers + 1 = omega (arith, length-append answers (rows ∷ [])) in
     let all : sum_by length (answers ++ rows ∷ []) ≡ sum_by length answers + length rows = sum_by_push length answers rows in
     let sum : int_sum (first_column (flat_map (λ rows. rows) (answers ++ rows ∷ []))) ≡ int_sum (first_column (flat_map (λ rows. rows) answers)) +ℤ int_sum (first_column rows) =
-    first_column-append answers (rows ∷ []) ∙ ap (λ (xs : List (List Value)). int_sum (first_column (flat_map (λ rows. rows) answers)) +ℤ int_sum (first_column xs)) (sym (append-nil rows)) in
+    first_column-append answers (rows ∷ []) ∙ ap (λ (xs : List (List Value)). int_sum (first_column (flat_map (λ rows. rows) answers)) +ℤ int_sum (first_column xs)) (append-nil rows) in
     λ i. record { queries = count i; rows = all i; total = sum i; granted = grants + grant }
 query_more answers grants grant (Meant (SumOutOfRange column sum)) = none_more answers (grants + grant)
 query_more answers grants grant (Meant (AnswerTooLarge rows)) = none_more answers (grants + grant)
@@ -77,9 +80,9 @@ query_more answers grants grant Spills = none_more answers (grants + grant)
 pub tallied_more : (o : WorkloadOptions) (n : ℕ) → tallied o (n + 1) ≡ ended (granted (tallied o n) (grant_at o n)) (ending_at o n)
 tallied_more o n =
     let answers : answers_to o (n + 1) ≡ answers_to o n ++ cons_option (answer_in (ending_at o n)) [] =
-    ap (filter_map (λ i. answer_in (ending_at o i))) (range_more 0 n) ∙ filter_map-append (λ i. answer_in (ending_at o i)) (range_with_len 0 n) (n ∷ []) in
+    ap (filter_map (λ i. answer_in (ending_at o i))) (from_zero n) ∙ filter_map-append (λ i. answer_in (ending_at o i)) (range_with_len 0 n) (n ∷ []) in
     let grants : sum_by (grant_at o) (range_with_len 0 (n + 1)) ≡ sum_by (grant_at o) (range_with_len 0 n) + grant_at o n =
-    ap (sum_by (grant_at o)) (range_more 0 n) ∙ sum_by_push (grant_at o) (range_with_len 0 n) n in
+    ap (sum_by (grant_at o)) (from_zero n) ∙ sum_by_push (grant_at o) (range_with_len 0 n) n in
     (λ i. tally_of (answers i) (grants i)) ∙ query_more (answers_to o n) (sum_by (grant_at o) (range_with_len 0 n)) (grant_at o n) (ending_at o n)
 
 few_left : {X Y : Type 0} (h : X → Option Y) (xs : List X) → length (filter_map h xs) ≤ length xs
@@ -92,36 +95,51 @@ pub few_completed : (o : WorkloadOptions) (n : ℕ) → (tallied o n).queries �
 few_completed o n = omega (arith, few_left (λ i. answer_in (ending_at o i)) (range_with_len 0 n), length_range 0 n)
 
 -- the first number that passes a test, among so many or among more
-pub found_first : (p : ℕ → Bool) (n a m : ℕ) → find p (range_with_len a n) ≡ None → n < m → p (a + n) ≡ true → find p (range_with_len a m) ≡ Some (a + n)
+found_first : (p : ℕ → Bool) (n a m : ℕ) → find p (range_with_len a n) ≡ None → n < m → p (a + n) ≡ true → find p (range_with_len a m) ≡ Some (a + n)
 found_first p zero a zero none less here = absurd (omega (arith, less))
 found_first p zero a (suc m) none less here =
     let at : a + 0 ≡ a = omega arith in
     ap (λ b. cond b (Some a) (find p (range_with_len (a + 1) m))) (sym (ap p at) ∙ here) ∙ ap Some (sym at)
 found_first p (suc n) a zero none less here = absurd (omega (arith, less))
-found_first p (suc n) a (suc m) none less here = turn (p a) none
+found_first p (suc n) a (suc m) none less here =
+    turn (p a) none (λ h. found_first p n (a + 1) m h (omega (arith, less)) (ap p at ∙ here) ∙ ap Some at)
   where
     at : a + 1 + n ≡ a + suc n
     at = omega arith
 
-    turn : (b : Bool) → cond b (Some a) (find p (range_with_len (a + 1) n)) ≡ None → cond b (Some a) (find p (range_with_len (a + 1) m)) ≡ Some (a + suc n)
-    turn true h = absurd (cc)
-    turn false h = found_first p n (a + 1) m h (omega (arith, less)) (ap p at ∙ here) ∙ ap Some at
+    turn : (b : Bool) → cond b (Some a) (find p (range_with_len (a + 1) n)) ≡ None
+        → (find p (range_with_len (a + 1) n) ≡ None → find p (range_with_len (a + 1) m) ≡ Some (a + suc n))
+        → cond b (Some a) (find p (range_with_len (a + 1) m)) ≡ Some (a + suc n)
+    turn true h next = absurd (cc)
+    turn false h next = next h
 
-pub found_none : (p : ℕ → Bool) (n a : ℕ) → find p (range_with_len a n) ≡ None → p (a + n) ≡ false → find p (range_with_len a (n + 1)) ≡ None
-found_none p n a none here = (let more : n + 1 ≡ suc n = omega arith in ap (λ k. find p (range_with_len a k)) more) ∙ go n a none here
+none_more_found : (p : ℕ → Bool) (n a : ℕ) → find p (range_with_len a n) ≡ None → p (a + n) ≡ false → find p (range_with_len a (suc n)) ≡ None
+none_more_found p zero a none here =
+    let at : a + 0 ≡ a = omega arith in
+    ap (λ b. cond b (Some a) None) (sym (ap p at) ∙ here)
+none_more_found p (suc n) a none here = turn (p a) none (λ h. none_more_found p n (a + 1) h (ap p at ∙ here))
   where
-    go : (n a : ℕ) → find p (range_with_len a n) ≡ None → p (a + n) ≡ false → find p (range_with_len a (suc n)) ≡ None
-    go zero a none here =
-        let at : a + 0 ≡ a = omega arith in
-        ap (λ b. cond b (Some a) None) (sym (ap p at) ∙ here)
-    go (suc n) a none here = turn (p a) none
-      where
-        at : a + 1 + n ≡ a + suc n
-        at = omega arith
+    at : a + 1 + n ≡ a + suc n
+    at = omega arith
 
-        turn : (b : Bool) → cond b (Some a) (find p (range_with_len (a + 1) n)) ≡ None → cond b (Some a) (find p (range_with_len (a + 1) (suc n))) ≡ None
-        turn true h = absurd (cc)
-        turn false h = go n (a + 1) h (ap p at ∙ here)
+    turn : (b : Bool) → cond b (Some a) (find p (range_with_len (a + 1) n)) ≡ None
+        → (find p (range_with_len (a + 1) n) ≡ None → find p (range_with_len (a + 1) (suc n)) ≡ None)
+        → cond b (Some a) (find p (range_with_len (a + 1) (suc n))) ≡ None
+    turn true h next = absurd (cc)
+    turn false h next = next h
+
+-- none of the first numbers passes, nor does the next one
+pub found_none : (p : ℕ → Bool) (n : ℕ) → find p (range_with_len 0 n) ≡ None → p n ≡ false → find p (range_with_len 0 (n + 1)) ≡ None
+found_none p n none here =
+    let more : n + 1 ≡ suc n = omega arith in
+    let at : 0 + n ≡ n = omega arith in
+    ap (λ k. find p (range_with_len 0 k)) more ∙ none_more_found p n 0 none (ap p at ∙ here)
+
+-- the first that passes
+pub found_at : (p : ℕ → Bool) (n m : ℕ) → find p (range_with_len 0 n) ≡ None → n < m → p n ≡ true → find p (range_with_len 0 m) ≡ Some n
+found_at p n m none less here =
+    let at : 0 + n ≡ n = omega arith in
+    found_first p n 0 m none less (ap p at ∙ here) ∙ ap Some at
 
 -- the first value of a row, where there may be none
 pub first_known : (row : List Value) (o : Option (Bor Value)) → option_copied o ≡ slice_get row 0 → known o ≡ column row 0

@@ -2,19 +2,24 @@
 use Rattle.std.proofs.Common.{◌≡◌, ℕ, Bool, true, false, cond, List, Ok, codes, refl, ap, ◌∙◌}
 use Rattle.std.specs.Prelude.{◌==◌, ◌%◌}
 use Rattle.rm_base.specs.declared.catalog.CatalogTable.{CatalogTable}
+use Rattle.rm_words.specs.Names as names
 use Rattle.query_plan.specs.Reading.{read_of}
 use Rattle.workload.specs.Queries.{catalog, counting, grouping, joining, select_at, summing, text_at}
 
 counting_read : read_of catalog (codes "SELECT COUNT(*) FROM a") ≡ Ok counting
+unfolding names.name_called
 counting_read = refl
 
 joining_read : read_of catalog (codes "SELECT COUNT(*) FROM a JOIN b ON a.k = b.k") ≡ Ok joining
+unfolding names.name_called
 joining_read = refl
 
 grouping_read : read_of catalog (codes "SELECT k, COUNT(*) FROM a GROUP BY k") ≡ Ok grouping
+unfolding names.name_called
 grouping_read = refl
 
 summing_read : read_of catalog (codes "SELECT SUM(v) FROM a") ≡ Ok summing
+unfolding names.name_called
 summing_read = refl
 
 pub texts-read : (i : ℕ) → read_of catalog (text_at i) ≡ Ok (select_at i)

@@ -7,7 +7,7 @@ ghost use Rattle.options.specs.Within.{IsWorkloadWithin};
 ghost use Rattle.query_run.specs.Running.{IsRunnable, run_outcome, tables_called};
 ghost use Rattle.workload.specs.Generator.{tables_of};
 ghost use Rattle.workload.specs.Pools.{workload_definitions};
-ghost use Rattle.workload.specs.Summary.{ending_at, grant_at, spills, text_of};
+ghost use Rattle.workload.specs.Summary.{ending_at, first_failed, grant_at, spills, tallied, text_of};
 ghost use Rattle.workload.specs.Tallying.{ended, granted};
 
 use crate::kit::Kit;
@@ -100,6 +100,55 @@ fn run_query<P: Spool, C: Clock>(
     fits
 }
 
+/// Runs the queries one after the other, up to the first that does not fit its grant, and answers which that is.
+fn run_queries<P: Spool, C: Clock>(
+    alloc: Global,
+    options: &WorkloadOptions,
+    work: &Work,
+    lone: &mut Lone,
+    kit: &mut Kit<P, C>,
+    tally: &mut Tally,
+) -> Result<Option<u32>, AllocError>
+    requires within { IsWorkloadWithin options.now }
+    requires tables { work.now.tables ≡ tables_of options.now.rows options.now.seed }
+    requires defined { lone.old.definitions ≡ workload_definitions options.now.memory options.now.cores }
+    requires rested { lone.old.held ≡ None }
+    requires begun { lone.old.begun ≡ 0 }
+    requires nothing { tally.old ≡ tallied options.now 0 }
+    ensures failed { IfOk result (λ failed. failed ≡ first_failed options.now) }
+    ensures tally { IfOk result (λ failed. failed ≡ None → tally.new ≡ tallied options.now options.now.count) }
+    ensures defined { lone.new.definitions ≡ lone.old.definitions }
+    ensures rested { OnOk result (lone.new.held ≡ None) }
+    ensures spool { kit.new.spool ≡ kit.old.spool }
+{
+    for query in 0..options.count {
+        if !run_query(alloc, options, query, work, lone, kit, tally)? {
+            return Ok(Some(query));
+        }
+    }
+    Ok(None)
+}
+
+/// Runs the queries over a desk of their own, and answers what the workload prints.
+fn run_work<P: Spool, C: Clock>(
+    alloc: Global,
+    options: &WorkloadOptions,
+    work: &Work,
+    kit: &mut Kit<P, C>,
+) -> Result<String, AllocError>
+    requires within { IsWorkloadWithin options.now }
+    requires tables { work.now.tables ≡ tables_of options.now.rows options.now.seed }
+    ensures text { IfOk result (λ text. string_bytes text ≡ text_of options.now) }
+    ensures spool { kit.new.spool ≡ kit.old.spool }
+{
+    let mut lone = Lone::new(alloc, options.memory, options.cores, kit.clock.now())?;
+    let mut tally = Tally::new();
+    match run_queries(alloc, options, work, &mut lone, kit, &mut tally)? {
+        Some(query) => failed_line(alloc, query),
+        None => summary_lines(alloc, &tally, lone.free(alloc)?),
+    }
+}
+
 /// What a workload with these options prints.
 pub fn run_workload<P: Spool, C: Clock>(
     alloc: Global,
@@ -112,13 +161,5 @@ pub fn run_workload<P: Spool, C: Clock>(
 {
     let tables = tables_of(alloc, options.rows, options.seed)?;
     let queries = Queries::read(alloc, tables.catalog())?;
-    let work = Work { tables, queries };
-    let mut lone = Lone::new(alloc, options.memory, options.cores, kit.clock.now())?;
-    let mut tally = Tally::new();
-    for query in 0..options.count {
-        if !run_query(alloc, options, query, &work, &mut lone, kit, &mut tally)? {
-            return failed_line(alloc, query);
-        }
-    }
-    summary_lines(alloc, &tally, lone.free(alloc)?)
+    run_work(alloc, options, &Work { tables, queries }, kit)
 }

@@ -2,6 +2,7 @@ use Rattle.std.proofs.Common.{◌≡◌, ℕ, suc, ◌+◌, ◌/◌, ◌%◌, �
 use Rattle.rm_base.specs.declared.value.Value.{Value}
 use Rattle.rm_base.specs.Values.{row_measure}
 use Rattle.rm_base.specs.TableSeen.{TableSeen}
+use Rattle.workload.specs.declared.generator.TheConstants.{KEYS, SHIFT}
 use Rattle.workload.specs.Generator.{draw, drawn, int_column, name_k, name_v, number_row, row_of_a}
 use Rattle.workload.proofs.TableLemmas.{room_left, table_more}
 use Rattle.workload.proofs.tables.table_a.Goals as goal
@@ -18,6 +19,10 @@ put-requires-clause-small c =
 
 pub loop-i-preserved : goal.loop-i-preserved
 loop-i-preserved c =
-    let next : c.drawn.result ≡ draw c.args.seed (suc c.loop-i.i) = c.drawn.ensures ∙ ap drawn c.loop-i.invariant.drawn in
-    let row = c.in_ok-row.ensures in
-    ?
+    let next : c.drawn-x.result ≡ draw c.args.seed (suc c.loop-i.i) = c.drawn-x.ensures ∙ ap drawn c.loop-i.invariant.drawn in
+    let row : c.in_ok-row.row ≡ row_of_a c.args.seed c.loop-i.i = c.in_ok-row.ensures ∙ ap (λ (x : ℕ). number_row (c.loop-i.i % KEYS) (x / 2 ^ SHIFT)) next in
+    let more : suc c.loop-i.i ≡ c.loop-i.i + 1 = omega arith in
+    record {
+      table = table_more (row_of_a c.args.seed) (int_column name_k ∷ int_column name_v ∷ []) c.loop-i.i c.loop-i.table c.put.new.table c.in_ok-row.row c.loop-i.invariant.table row c.in_ok-put.ensures;
+      drawn = next ∙ ap (draw c.args.seed) more;
+    }
