@@ -18,7 +18,7 @@ pub returns-in-Err-Refused : goal.returns-in-Err-Refused
 returns-in-Err-Refused c =
     let refusal = c.in-Err-Refused.refusal in
     let machine = sym c.entries-entries.ensures.replays ∙ ap (λ (s : ScriptState). s.machine) c.self.view_is in
-    let shown = c.table_rows.ensures.refused refusal c.in-Err-Refused.is in
+    let shown = c.table_rows.ensures.refused refusal (c.in-Err-Refused.is ∙ ap Err c.in-Err-Refused.field-0-is) in
     IfOk-weaker c.refused.result _ _
     (λ t is. is c.args.self.now ∙ look-shown c.args.self.now c.self.inside.desk.state c.in_ok-looked.looked c.args.name (Err refusal) c.in_ok-looked.ensures.looked machine shown)
     c.refused.ensures
