@@ -15,13 +15,13 @@ use std::test::Fail;
 
 mod borrowing;
 mod cascades;
+mod command_words;
 mod drops;
 mod faults;
 mod grantees;
 mod joins;
 mod limits;
 mod lines;
-mod options;
 mod queries;
 mod queue;
 mod rooms;
