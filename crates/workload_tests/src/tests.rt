@@ -1,6 +1,6 @@
 //! Workloads, by their words and under different clocks.
 
-ghost use Rattle.std.specs.Prelude.{length, map, string_bytes, IfOk};
+ghost use Rattle.std.specs.Prelude.{◌≡◌, length, map, string_bytes, IfOk};
 ghost use Rattle.workload.specs.Ended.{HasKits};
 
 use options::status::{DONE, Status, USAGE, WRITE_FAULT};
@@ -24,7 +24,23 @@ fn words_of(alloc: Global, line: &str) -> Result<Vec<String>, Fail> {
     Ok(words)
 }
 
-/// A kit for each worker that the words name, whose clocks stand still at a moment.
+/// So many kits, whose clocks stand still at a moment.
+fn kits_of(alloc: Global, count: u32, at: u64) -> Result<Vec<Kit<MemorySpool, MemoryClock>>, Fail>
+    ensures { IfOk result (λ kits. length kits.items ≡ count) }
+{
+    let mut kits = Vec::new(alloc);
+    for _ in 0..count {
+        let mut moments = Vec::new(alloc);
+        moments.push(Moment::of(at))?;
+        kits.push(Kit {
+            spool: MemorySpool::new(alloc),
+            clock: MemoryClock::new(moments),
+        })?;
+    }
+    Ok(kits)
+}
+
+/// A kit for each worker that the words name.
 fn kits_for(
     alloc: Global,
     words: &[String],
@@ -36,16 +52,7 @@ fn kits_for(
         Some(options) => options.workers,
         None => 0,
     };
-    let mut kits = Vec::new(alloc);
-    for _ in 0..workers {
-        let mut moments = Vec::new(alloc);
-        moments.push(Moment::of(at))?;
-        kits.push(Kit {
-            spool: MemorySpool::new(alloc),
-            clock: MemoryClock::new(moments),
-        })?;
-    }
-    Ok(kits)
+    kits_of(alloc, workers, at)
 }
 
 /// The status with which the words of a line, run at a moment, end, and what they print.
