@@ -1,6 +1,7 @@
 use Rattle.std.specs.Prelude.{◌==◌, ℕ, Bool, List, if◌then◌else◌}
 use Rattle.std.specs.List.{list_any}
 use Rattle.rm_outside.specs.Faults.{counted}
+use Rattle.rm_outside.specs.Stored.{StoredRows}
 
 -- the numbers of the calls that fail, the calls made so far and the faults counted so far
 pub record Plan : Type 0 where
@@ -27,4 +28,9 @@ pub record Planned : Type 0 where
 -- files by their paths behind a plan of failing calls
 pub record PlannedShelf : Type 0 where
   pub shelf : List (List ℕ × List ℕ)
+  pub plan : Plan
+
+-- stored rows behind a plan of failing calls
+pub record PlannedKeeper : Type 0 where
+  pub rows : StoredRows
   pub plan : Plan

@@ -5,6 +5,7 @@
 pub mod call_plan;
 pub mod clock;
 mod copy;
+pub mod failing_keeper;
 pub mod failing_shelf;
 pub mod failing_sink;
 pub mod failing_source;
