@@ -1,3 +1,5 @@
+pub mod CommandLineLemmas
 pub mod NumeralLemmas
+pub mod OptionsLemmas
 pub mod WithinLaws
 pub mod WorkloadLemmas

@@ -1,14 +1,11 @@
--- ScriptOptions that are read are within their ranges.
-use Rattle.std.proofs.Common.{◌≡◌, ℕ, ◌+◌, ◌-◌, ◌≤◌, ◌<◌, take, Bool, true, false, cond, leb, ltb, List, length, Option, Some, None, refl, subst, arith}
+-- Values that are read are within their ranges.
+use Rattle.std.proofs.Common.{◌≡◌, ℕ, ◌+◌, ◌-◌, ◌≤◌, ◌<◌, take, Bool, true, false, cond, leb, ltb, List, length, Option, Some, None, refl, arith}
 use Rattle.std.proofs.lemmas.Bool.Decides.{nat_tests}
 use Rattle.std.specs.Prelude.{slice_index}
 use Rattle.std.specs.Option.{option_and_then}
 use Rattle.rm_base.specs.declared.limits.TheConstants.{MEMORY_LEAST, MEMORY_MOST, CORES_MOST}
-use Rattle.options.specs.declared.script.ScriptOptions.{ScriptOptions}
 use Rattle.options.specs.Numeral.{below, at_least, in_range, numeral_of, has_leading_zero, number_within}
 use Rattle.options.specs.Machine.{unit_of, times, memory_of, cores_of}
-use Rattle.options.specs.Script.{both_options, values_in, script_options}
-use Rattle.options.specs.Within.{AreWithin}
 
 below-some : (limit n : ℕ) (o : Option ℕ) → below limit o ≡ Some n → (o ≡ Some n) × (n < limit)
 below-some limit n None h = absurd (cc)
@@ -35,17 +32,6 @@ in_range-some least most n o h =
     let upper = below-some (most + 1) n (at_least least o) h in
     (at_least-some least n o upper.0, omega (arith, upper.1))
 
-both-within : (o : ScriptOptions) (memory cores : Option ℕ) → ((n : ℕ) → memory ≡ Some n → (MEMORY_LEAST ≤ n) × (n ≤ MEMORY_MOST)) → ((n : ℕ) → cores ≡ Some n → (1 ≤ n) × (n ≤ CORES_MOST))
-    → both_options memory cores ≡ Some o → AreWithin o
-both-within o None cores m c h = absurd (cc)
-both-within o (Some memory) None m c h = absurd (cc)
-both-within o (Some memory) (Some cores) m c h =
-    let a = m memory refl in
-    let b = c cores refl in
-    let P : ScriptOptions → Type 0 = AreWithin in
-    let one : record { memory = memory; cores = cores } ≡ o = cc in
-    subst P one (record { memory_least = a.0; memory_most = a.1; cores_least = b.0; cores_most = b.1 })
-
 pub within : (least most : ℕ) (word : List ℕ) (n : ℕ) → number_within least most word ≡ Some n → (least ≤ n) × (n ≤ most)
 within least most word n h =
     let turn : (b : Bool) → cond b None (in_range least most (numeral_of word)) ≡ Some n → (least ≤ n) × (n ≤ most) =
@@ -63,10 +49,8 @@ memory-within word n h =
     let last = length word - 1 in
     in_range-some MEMORY_LEAST MEMORY_MOST n (times (numeral_of (take last word)) (unit_of (slice_index word last))) h
 
-values-within : (o : ScriptOptions) (values : Option (List ℕ × List ℕ)) → option_and_then (λ v. both_options (memory_of v.0) (cores_of v.1)) values ≡ Some o → AreWithin o
-values-within o None h = absurd (cc)
-values-within o (Some v) h =
-    both-within o (memory_of v.0) (cores_of v.1) (memory-within v.0) (cores-within v.1) h
-
-pub options-within : (words : List (List ℕ)) (o : ScriptOptions) → script_options words ≡ Some o → AreWithin o
-options-within words o h = values-within o (values_in words) h
+-- a value that is read by a reading that keeps a range lies in it
+pub read-within : (read : List ℕ → Option ℕ) (least most : ℕ) (word : Option (List ℕ)) → ((w : List ℕ) (n : ℕ) → read w ≡ Some n → (least ≤ n) × (n ≤ most))
+    → (n : ℕ) → option_and_then read word ≡ Some n → (least ≤ n) × (n ≤ most)
+read-within read least most None lies n h = absurd (cc)
+read-within read least most (Some w) lies n h = lies w n h

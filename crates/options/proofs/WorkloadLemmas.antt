@@ -1,14 +1,14 @@
 -- The options of a workload lie within their ranges.
-use Rattle.std.proofs.Common.{◌≡◌, ℕ, ◌^◌, ◌-◌, ◌≤◌, Bool, true, false, if◌then◌else◌, List, [], ◌∷◌, Option, Some, None, refl, subst, codes}
-use Rattle.std.specs.Option.{option_and_then}
-use Rattle.std.specs.Str.{bytes_eq}
+use Rattle.std.proofs.Common.{◌≡◌, ℕ, ◌^◌, ◌-◌, ◌≤◌, List, Option, Some, None, refl, subst, codes}
+use Rattle.clap.specs.Words.{Row, first_of}
+use Rattle.options.specs.CommandLine.{read_by}
 use Rattle.rm_base.specs.declared.limits.TheConstants.{MEMORY_LEAST, MEMORY_MOST, CORES_MOST, WORKLOAD_QUERIES_MOST, WORKLOAD_ROWS_MOST}
 use Rattle.options.specs.declared.workload.WorkloadOptions.{WorkloadOptions}
 use Rattle.options.specs.Machine.{memory_of, cores_of}
 use Rattle.options.specs.Numeral.{number_within}
-use Rattle.options.specs.Workload.{all_options, value_at, is_workload, workload_options}
+use Rattle.options.specs.Workload.{all_options, options_in}
 use Rattle.options.specs.Within.{IsWorkloadWithin}
-use Rattle.options.proofs.WithinLaws.{within, cores-within, memory-within}
+use Rattle.options.proofs.WithinLaws.{within, cores-within, memory-within, read-within}
 
 abbrev Lies : ℕ → ℕ → Option ℕ → Type 0
 Lies least most o = (n : ℕ) → o ≡ Some n → (least ≤ n) × (n ≤ most)
@@ -38,22 +38,13 @@ all-within (Some m) (Some c) (Some n) (Some r) (Some s) o lm lc ln lr h =
       workers = refl;
     })
 
-read-within : (read : List ℕ → Option ℕ) (least most : ℕ) (word : Option (List ℕ)) → ((w : List ℕ) → Lies least most (read w)) → Lies least most (option_and_then read word)
-read-within read least most None lies n h = absurd (cc)
-read-within read least most (Some w) lies n h = lies w n h
-
-named-within : (b : Bool) (m c n r s : Option (List ℕ)) (o : WorkloadOptions)
-    → (if b then all_options (option_and_then memory_of m) (option_and_then cores_of c) (option_and_then (number_within 0 WORKLOAD_QUERIES_MOST) n)
-    (option_and_then (number_within 1 WORKLOAD_ROWS_MOST) r) (option_and_then (number_within 0 (2 ^ 64 - 1)) s) else None) ≡ Some o → IsWorkloadWithin o
-named-within false m c n r s o h = absurd (cc)
-named-within true m c n r s o h =
-    all-within (option_and_then memory_of m) (option_and_then cores_of c) (option_and_then (number_within 0 WORKLOAD_QUERIES_MOST) n)
-    (option_and_then (number_within 1 WORKLOAD_ROWS_MOST) r) (option_and_then (number_within 0 (2 ^ 64 - 1)) s) o
-    (read-within memory_of MEMORY_LEAST MEMORY_MOST m memory-within) (read-within cores_of 1 CORES_MOST c cores-within)
-    (read-within (number_within 0 WORKLOAD_QUERIES_MOST) 0 WORKLOAD_QUERIES_MOST n (within 0 WORKLOAD_QUERIES_MOST))
-    (read-within (number_within 1 WORKLOAD_ROWS_MOST) 1 WORKLOAD_ROWS_MOST r (within 1 WORKLOAD_ROWS_MOST)) h
-
-pub workload-within : (words : List (List ℕ)) (o : WorkloadOptions) → workload_options words ≡ Some o → IsWorkloadWithin o
-workload-within words o h =
-    named-within (is_workload words) (value_at words 1 (codes "--memory")) (value_at words 3 (codes "--cores"))
-    (value_at words 5 (codes "--count")) (value_at words 7 (codes "--rows")) (value_at words 9 (codes "--seed")) o h
+pub workload-within : (rows : List Row) (o : WorkloadOptions) → options_in rows ≡ Some o → IsWorkloadWithin o
+workload-within rows o h =
+    all-within (read_by memory_of (codes "memory") rows) (read_by cores_of (codes "cores") rows)
+    (read_by (number_within 0 WORKLOAD_QUERIES_MOST) (codes "count") rows)
+    (read_by (number_within 1 WORKLOAD_ROWS_MOST) (codes "rows") rows)
+    (read_by (number_within 0 (2 ^ 64 - 1)) (codes "seed") rows) o
+    (read-within memory_of MEMORY_LEAST MEMORY_MOST (first_of (codes "memory") rows) memory-within)
+    (read-within cores_of 1 CORES_MOST (first_of (codes "cores") rows) cores-within)
+    (read-within (number_within 0 WORKLOAD_QUERIES_MOST) 0 WORKLOAD_QUERIES_MOST (first_of (codes "count") rows) (within 0 WORKLOAD_QUERIES_MOST))
+    (read-within (number_within 1 WORKLOAD_ROWS_MOST) 1 WORKLOAD_ROWS_MOST (first_of (codes "rows") rows) (within 1 WORKLOAD_ROWS_MOST)) h

@@ -1,10 +1,15 @@
 //! The words of the command `script`.
 
-ghost use Rattle.std.specs.Prelude.{◌≡◌, map, string_bytes, IfSome, option_map};
-ghost use Rattle.options.specs.Script.{values_in, script_options};
+ghost use Rattle.std.specs.Prelude.{◌≡◌, map, string_bytes, IfOk, IfSome, option_map};
+ghost use Rattle.clap.specs.Words.{found_of, rows_of};
+ghost use Rattle.options.specs.CommandLine.{given};
+ghost use Rattle.options.specs.Script.{SCRIPT, options_in, script_options, script_rules};
 ghost use Rattle.options.specs.Within.{AreWithin};
 
+use crate::command_line::{given, value_of};
 use crate::machine::{cores_of, memory_of};
+use clap::ArgMatches;
+use std::alloc::{AllocError, Global};
 
 /// What the words of the command line say of the machine.
 #[derive(Clone, Copy, PartialEq, Eq, Debug)]
@@ -15,36 +20,44 @@ pub struct ScriptOptions {
     pub cores: u32,
 }
 
-/// The options that the words of the command line give: exactly `script --memory V --cores N`.
-pub fn script_options(words: &[String]) -> Option<ScriptOptions>
-    ensures options { result ≡ script_options (map string_bytes words.now) }
+/// What the words of the command line say of the machine, where they are `script`'s; fails where memory is wanting.
+///
+/// `--memory` and `--cores` must be given, `--store` and `--spool` may be. Options stand in any order, each once, as
+/// `--x V` or as `--x=V`.
+pub fn script_options(alloc: Global, words: &[String]) -> Result<Option<ScriptOptions>, AllocError>
+    ensures options { IfOk result (λ options. options ≡ script_options (map string_bytes words.now)) }
+    ensures within { IfOk result (λ options. IfSome options AreWithin) }
+{
+    match script_matches(alloc, words)? {
+        Some(matches) => Ok(options_in(&matches)),
+        None => Ok(None),
+    }
+}
+
+/// What the words give the command's options, where the command takes them.
+pub fn script_matches<'a>(
+    alloc: Global,
+    words: &'a [String],
+) -> Result<Option<ArgMatches<'a>>, AllocError>
+    ensures { IfOk result (λ matches. option_map (λ m. rows_of (found_of m)) matches
+        ≡ given SCRIPT script_rules (map string_bytes words.now)) }
+{
+    let options = [
+        ("memory", true),
+        ("cores", true),
+        ("store", false),
+        ("spool", false),
+    ];
+    given(alloc, "script", &options, words)
+}
+
+/// The options, where each value is in its range.
+pub fn options_in(matches: &ArgMatches<'_>) -> Option<ScriptOptions>
+    ensures options { result ≡ options_in (rows_of (found_of matches.now)) }
     ensures within { IfSome result AreWithin }
 {
-    read_options(words)
-}
-
-fn read_options(words: &[String]) -> Option<ScriptOptions>
-    ensures { result ≡ script_options (map string_bytes words.now) }
-{
-    let (memory, cores) = values_in(words)?;
     Some(ScriptOptions {
-        memory: memory_of(memory)?,
-        cores: cores_of(cores)?,
+        memory: memory_of(value_of(matches, "memory")?)?,
+        cores: cores_of(value_of(matches, "cores")?)?,
     })
-}
-
-/// The values of the options, in the order of the words.
-fn values_in(words: &[String]) -> Option<(&str, &str)>
-    ensures { option_map (λ values. (values.0.now, values.1.now)) result
-        ≡ values_in (map string_bytes words.now) }
-{
-    match words {
-        [command, first, memory, second, cores] => {
-            let is_keyed = command.as_str() == "script"
-                && first.as_str() == "--memory"
-                && second.as_str() == "--cores";
-            is_keyed.then_some((memory.as_str(), cores.as_str()))
-        }
-        _ => None,
-    }
 }

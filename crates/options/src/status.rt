@@ -18,11 +18,17 @@ pub const WRITE_FAULT: u8 = 4;
 /// The file of a table is not there, or has a fault.
 pub const BAD_TABLE: u8 = 5;
 
+/// The stored definitions could not be read, or could not be stored.
+pub const KEEPER_FAULT: u8 = 6;
+
 /// Memory was wanting.
 pub const NO_MEMORY: u8 = 7;
 
 /// The script is longer than a script may be.
 pub const TOO_LONG: u8 = 8;
+
+/// The stored definitions are not sound on this machine.
+pub const UNSOUND: u8 = 9;
 
 /// The status with which the program ends, one of the numbers above.
 #[derive(Clone, Copy, Debug, PartialEq, Eq)]

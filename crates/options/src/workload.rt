@@ -1,16 +1,17 @@
 //! The words of the command `workload`.
 
-ghost use Rattle.std.specs.Prelude.{◌≡◌, ◌<◌, map, string_bytes, option_map, IfSome};
+ghost use Rattle.std.specs.Prelude.{◌≡◌, map, string_bytes, option_map, IfOk, IfSome};
+ghost use Rattle.clap.specs.Words.{found_of, rows_of};
+ghost use Rattle.options.specs.CommandLine.{given};
 ghost use Rattle.options.specs.Within.{IsWorkloadWithin};
-ghost use Rattle.options.specs.declared.workload.TheConstants.{WORDS};
-ghost use Rattle.options.specs.Workload.{is_workload, value_at, word_at, workload_options};
+ghost use Rattle.options.specs.Workload.{WORKLOAD, options_in, workload_options, workload_rules};
 
+use crate::command_line::{given, value_of};
 use crate::machine::{cores_of, memory_of};
 use crate::numeral::{number_within, small_within};
+use clap::ArgMatches;
 use rm_base::limits::{WORKLOAD_QUERIES_MOST, WORKLOAD_ROWS_MOST};
-
-/// How many words the command has.
-pub const WORDS: usize = 11;
+use std::alloc::{AllocError, Global};
 
 /// What the words of the command line say of a generated workload.
 #[derive(Clone, Copy, PartialEq, Eq, Debug)]
@@ -29,51 +30,54 @@ pub struct WorkloadOptions {
     pub workers: u32,
 }
 
-/// The options that the words of the command line give: exactly `workload --memory V --cores N --count C --rows R --seed S`.
-pub fn workload_options(words: &[String]) -> Option<WorkloadOptions>
-    ensures options { result ≡ workload_options (map string_bytes words.now) }
+/// What the words of the command line say of a generated workload, where they are `workload`'s; fails where memory is
+/// wanting.
+///
+/// `--memory`, `--cores`, `--count`, `--rows` and `--seed` must be given, `--spool` may be. Options stand in any order,
+/// each once, as `--x V` or as `--x=V`.
+pub fn workload_options(
+    alloc: Global,
+    words: &[String],
+) -> Result<Option<WorkloadOptions>, AllocError>
+    ensures options { IfOk result (λ options. options ≡ workload_options (map string_bytes words.now)) }
+    ensures within { IfOk result (λ options. IfSome options IsWorkloadWithin) }
+{
+    match workload_matches(alloc, words)? {
+        Some(matches) => Ok(options_in(&matches)),
+        None => Ok(None),
+    }
+}
+
+/// What the words give the command's options, where the command takes them.
+pub fn workload_matches<'a>(
+    alloc: Global,
+    words: &'a [String],
+) -> Result<Option<ArgMatches<'a>>, AllocError>
+    ensures { IfOk result (λ matches. option_map (λ m. rows_of (found_of m)) matches
+        ≡ given WORKLOAD workload_rules (map string_bytes words.now)) }
+{
+    let options = [
+        ("memory", true),
+        ("cores", true),
+        ("count", true),
+        ("rows", true),
+        ("seed", true),
+        ("spool", false),
+    ];
+    given(alloc, "workload", &options, words)
+}
+
+/// The options, where each value is in its range.
+pub fn options_in(matches: &ArgMatches<'_>) -> Option<WorkloadOptions>
+    ensures options { result ≡ options_in (rows_of (found_of matches.now)) }
     ensures within { IfSome result IsWorkloadWithin }
 {
-    read_options(words)
-}
-
-fn read_options(words: &[String]) -> Option<WorkloadOptions>
-    ensures { result ≡ workload_options (map string_bytes words.now) }
-{
-    if !is_workload(words) {
-        return None;
-    }
     Some(WorkloadOptions {
-        memory: memory_of(value_at(words, 1, "--memory")?)?,
-        cores: cores_of(value_at(words, 3, "--cores")?)?,
-        count: small_within(0, WORKLOAD_QUERIES_MOST, value_at(words, 5, "--count")?)?,
-        rows: small_within(1, WORKLOAD_ROWS_MOST, value_at(words, 7, "--rows")?)?,
-        seed: number_within(0, u64::MAX, value_at(words, 9, "--seed")?)?,
+        memory: memory_of(value_of(matches, "memory")?)?,
+        cores: cores_of(value_of(matches, "cores")?)?,
+        count: small_within(0, WORKLOAD_QUERIES_MOST, value_of(matches, "count")?)?,
+        rows: small_within(1, WORKLOAD_ROWS_MOST, value_of(matches, "rows")?)?,
+        seed: number_within(0, u64::MAX, value_of(matches, "seed")?)?,
         workers: 1,
     })
-}
-
-/// Whether these are as many words as the command has, and the first is the command's.
-fn is_workload(words: &[String]) -> bool
-    ensures { result ≡ is_workload (map string_bytes words.now) }
-{
-    words.len() == WORDS && word_at(words, 0) == "workload"
-}
-
-/// The value of the option that stands at a place, where it is this one.
-fn value_at<'a>(words: &'a [String], at: usize, option: &str) -> Option<&'a str>
-    requires { at < WORDS }
-    ensures { option_map (λ v. v.now) result ≡ value_at (map string_bytes words.now) at option.now }
-{
-    (word_at(words, at) == option).then_some(word_at(words, at + 1))
-}
-
-/// The word at a place, or none of a letter where there is no more.
-fn word_at<'a>(words: &'a [String], at: usize) -> &'a str
-    ensures { result.now ≡ word_at (map string_bytes words.now) at }
-{
-    match words.get(at) {
-        Some(word) => word.as_str(),
-        None => "",
-    }
 }

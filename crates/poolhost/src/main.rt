@@ -4,16 +4,19 @@
 mod adapters;
 mod system_clock;
 
-ghost use Rattle.std.specs.Prelude.{◌≡◌, Some, IfOk, length, map, string_bytes};
-ghost use Rattle.options.specs.Workload.{workload_options};
+ghost use Rattle.std.specs.Prelude.{◌≡◌, IfOk, length, map, string_bytes};
+ghost use Rattle.options.specs.Options.{HasWorkers};
+ghost use Rattle.workload.specs.Ended.{HasKits};
 
 use adapters::{FileShelf, ReaderSource, WriterSink};
-use options::status::{DONE, NO_MEMORY, Status, USAGE, WRITE_FAULT};
-use options::workload::WorkloadOptions;
-use options::{Options, options_of};
+use keeper_rows::sql_keeper::SqlKeeper;
+use options::status::{DONE, KEEPER_FAULT, NO_MEMORY, Status, USAGE, WRITE_FAULT};
+use options::{Command, Options, options_of};
+use rm_outside::keeper::Keeper;
 use rm_outside::memory_keeper::MemoryKeeper;
 use rm_outside::memory_spool::MemorySpool;
 use sessions::script_main::script_main;
+use sqlite::{Connection, Error, ErrorCode, File, FileStore};
 use std::alloc::{AllocError, Global};
 use std::env;
 use std::io::{self, ErrorKind};
@@ -25,13 +28,20 @@ use workload::workload_main::workload_main;
 /// What `--help` prints.
 const HELP: &str = "poolhost: a query host whose memory is governed by resource pools
 
-usage: poolhost script --memory SIZE --cores COUNT
-       poolhost workload --memory SIZE --cores COUNT --count QUERIES --rows ROWS --seed SEED
+usage: poolhost script --memory SIZE --cores COUNT [--store FILE] [--spool FOLDER]
+       poolhost workload --memory SIZE --cores COUNT --count QUERIES --rows ROWS --seed SEED [--spool FOLDER]
 
-SIZE is digits and one of K, M, G, T, from 16M to 1024T; COUNT is 1 to 1024.
-script reads a script from standard input and writes what its lines print.
-workload runs generated queries in three pools, one after the other, and writes a summary of five lines: QUERIES is 0 to
-10000, ROWS 1 to 100000, SEED 0 to 18446744073709551615.
+script reads a script from standard input and writes what its lines print. workload runs generated queries in three pools,
+one after the other, and writes a summary of five lines.
+Options, in any order, each once, as --cores 8 or as --cores=8:
+  --memory SIZE        the memory: digits and one of K, M, G, T, from 16M to 1024T
+  --cores COUNT        how many cores there are: 1 to 1024
+  --store FILE         the file that keeps pools, users, roles and grants; it is made where there is none
+                       (without it they end with the script)
+  --count QUERIES      how many queries there are: 0 to 10000
+  --rows ROWS          how many rows the first table has: 1 to 100000
+  --seed SEED          the number with which the generator begins: 0 to 18446744073709551615
+  --spool FOLDER       the folder of files that queries spill to; it has no effect yet
 Lines of a script:
   at N                 moves the script's moment on to N milliseconds
   sql TEXT             defines what a statement says, on pools, users, roles or grants
@@ -52,8 +62,9 @@ Lines of a script:
 Empty lines and lines that begin with # print nothing.";
 
 /// What is told on standard error of words that name no command.
-const USAGE_TEXT: &str = "usage: poolhost script --memory SIZE --cores COUNT
-       poolhost workload --memory SIZE --cores COUNT --count QUERIES --rows ROWS --seed SEED";
+const USAGE_TEXT: &str =
+    "usage: poolhost script --memory SIZE --cores COUNT [--store FILE] [--spool FOLDER]
+       poolhost workload --memory SIZE --cores COUNT --count QUERIES --rows ROWS --seed SEED [--spool FOLDER]";
 
 /// The words of the command line, without the program's own.
 fn command_words(rt: &HostRuntime) -> io::Result<Vec<String>> {
@@ -64,22 +75,66 @@ fn command_words(rt: &HostRuntime) -> io::Result<Vec<String>> {
     Ok(words)
 }
 
-/// The command `script`, over the standard streams.
-fn run_script(rt: &HostRuntime, alloc: Global, words: &[String]) -> Status {
+/// The command `script`, over the standard streams and this store.
+fn run_script<K: Keeper>(
+    rt: &HostRuntime,
+    alloc: Global,
+    words: &[String],
+    keeper: &mut K,
+) -> Status {
     let mut input = ReaderSource::new(rt.stdin());
     let mut out = WriterSink::new(rt.stdout());
-    let mut keeper = MemoryKeeper::new();
     let mut shelf = FileShelf::new(rt);
     let mut spool = MemorySpool::new(alloc);
     script_main(
-        alloc,
-        words,
-        &mut input,
-        &mut out,
-        &mut shelf,
-        &mut spool,
-        &mut keeper,
+        alloc, words, &mut input, &mut out, &mut shelf, &mut spool, keeper,
     )
+}
+
+/// The command `script`, over a store in memory.
+fn run_in_memory(rt: &HostRuntime, alloc: Global, words: &[String]) -> Status {
+    let mut keeper = MemoryKeeper::new();
+    run_script(rt, alloc, words, &mut keeper)
+}
+
+/// The status of a program that can't open its store.
+fn unopened(error: &Error) -> Status {
+    Status(match error {
+        Error::SqliteFailure(ErrorCode::OutOfMemory) => NO_MEMORY,
+        _ => KEEPER_FAULT,
+    })
+}
+
+/// The store in the file at a path, which is made where there is none; fails with the status for want of it.
+fn open_store(rt: &HostRuntime, path: &str) -> Result<SqlKeeper<FileStore<File>>, Status> {
+    match Connection::open(rt, path) {
+        Ok(connection) => Ok(SqlKeeper::adopt(connection)),
+        Err(error) => Err(unopened(&error)),
+    }
+}
+
+/// Closes the store, so that the file holds all of it; answers the status of a program that has come to one so far.
+fn close_store(rt: &HostRuntime, keeper: SqlKeeper<FileStore<File>>, status: Status) -> Status {
+    if keeper.close().is_ok() {
+        return status;
+    }
+    let _ = rt.eprintln("poolhost: the store could not be closed");
+    if status == Status(DONE) {
+        Status(KEEPER_FAULT)
+    } else {
+        status
+    }
+}
+
+/// The command `script`, over the store in the file at a path.
+fn run_over_file(rt: &HostRuntime, alloc: Global, words: &[String], path: &str) -> Status {
+    match open_store(rt, path) {
+        Ok(mut keeper) => {
+            let status = run_script(rt, alloc, words, &mut keeper);
+            close_store(rt, keeper, status)
+        }
+        Err(status) => status,
+    }
 }
 
 /// A spool and a clock for each worker.
@@ -101,26 +156,35 @@ fn kits_of<'a>(
 }
 
 /// The command `workload`, over standard output.
-fn run_workload(
-    rt: &HostRuntime,
-    alloc: Global,
-    words: &[String],
-    options: WorkloadOptions,
-) -> Status
-    requires { workload_options (map string_bytes words.now) ≡ Some options }
+fn run_workload(rt: &HostRuntime, alloc: Global, words: &[String], workers: u32) -> Status
+    requires { HasKits (map string_bytes words.now) workers }
 {
     let mut out = WriterSink::new(rt.stdout());
-    match kits_of(rt, alloc, options.workers) {
+    match kits_of(rt, alloc, workers) {
         Ok(mut kits) => workload_main(alloc, words, &mut out, &mut kits),
         Err(AllocError) => Status(NO_MEMORY),
     }
 }
 
+/// The command that the words name, over what their options make of the outside.
+fn run_options(rt: &HostRuntime, alloc: Global, words: &[String], options: &Options<'_>) -> Status
+    requires { HasWorkers (map string_bytes words.now) options.now }
+{
+    match options.command {
+        Command::Workload => run_workload(rt, alloc, words, options.workers),
+        Command::Script => match options.store {
+            Some(path) => run_over_file(rt, alloc, words, path),
+            None => run_in_memory(rt, alloc, words),
+        },
+    }
+}
+
 /// The command that the words name. Words that name none are a script's, which refuses them.
 fn run_command(rt: &HostRuntime, alloc: Global, words: &[String]) -> Status {
-    match options_of(words) {
-        Some(Options::Workload(options)) => run_workload(rt, alloc, words, options),
-        Some(Options::Script(_)) | None => run_script(rt, alloc, words),
+    match options_of(alloc, words) {
+        Ok(Some(options)) => run_options(rt, alloc, words, &options),
+        Ok(None) => run_in_memory(rt, alloc, words),
+        Err(AllocError) => Status(NO_MEMORY),
     }
 }
 

@@ -1,5 +1,6 @@
 //! How scripts are run here, and how cases of them are written.
 
+use rm_outside::keeper::Keeper;
 use rm_outside::memory_keeper::MemoryKeeper;
 use rm_outside::memory_shelf::MemoryShelf;
 use rm_outside::memory_sink::MemorySink;
@@ -28,6 +29,7 @@ mod rooms;
 mod session_calls;
 mod shows;
 mod statements;
+mod stores;
 mod tables;
 mod users;
 
@@ -53,13 +55,24 @@ fn status_with<S: Source, O: Sink, H: Shelf>(
     out: &mut O,
     shelf: &mut H,
 ) -> Result<u8, Fail> {
+    status_kept(alloc, line, input, out, shelf, &mut MemoryKeeper::new())
+}
+
+/// The same with the definitions of this store.
+fn status_kept<S: Source, O: Sink, H: Shelf, K: Keeper>(
+    alloc: Global,
+    line: &str,
+    input: &mut S,
+    out: &mut O,
+    shelf: &mut H,
+    keeper: &mut K,
+) -> Result<u8, Fail> {
     let mut words = Vec::new(alloc);
     for word in line.split(' ') {
         words.push(String::from_str(alloc, word)?)?;
     }
     let mut spool = MemorySpool::new(alloc);
-    let mut keeper = MemoryKeeper::new();
-    let status = script_main(alloc, &words, input, out, shelf, &mut spool, &mut keeper);
+    let status = script_main(alloc, &words, input, out, shelf, &mut spool, keeper);
     Ok(status.0)
 }
 

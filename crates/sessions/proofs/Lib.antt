@@ -12,6 +12,7 @@ mod HoldingLaws
 mod AnswerLemmas
 mod CommandLemmas
 mod CsvLemmas
+mod DefinedLaws
 mod PrintLemmas
 mod PlanLemmas
 mod TurnLemmas

@@ -1,11 +1,8 @@
 -- Numbers of few digits.
-use Rattle.std.proofs.Common.{◌≡◌, ◌≢◌, ℕ, ◌^◌, ◌<◌, ◌≤◌, Bool, true, false, ◌&&◌, cond, nat_lt, leb, Decides, None, Some, Result, Ok, Err, List, length, get_or, refl, sym, ap, ◌∙◌, arith}
-use Rattle.std.proofs.lemmas.Bool.{false≢true}
-use Rattle.std.proofs.lemmas.Bool.Decides.{Decides-like, Decides-and, Decides-ltb, nat_tests}
-use Rattle.std.proofs.lemmas.Str.Parse.{parse_plain, digits_value_short}
-use Rattle.std.specs.Result.{OkIff, result_ok}
-use Rattle.std.specs.Str.{all_ascii_digits}
-use Rattle.std.specs.Str.Parse.{ParsesUnsigned, digits_value}
+use Rattle.std.proofs.Common.{◌≡◌, ℕ, ◌^◌, ◌<◌, ◌≤◌, Bool, true, false, ◌&&◌, cond, nat_lt, leb, None, Some, List, length, refl, ap, ◌∙◌, arith}
+use Rattle.std.proofs.lemmas.Bool.Decides.{Decides-and, Decides-ltb, nat_tests}
+use Rattle.std.proofs.lemmas.Str.Parse.{digits_value_short}
+use Rattle.std.specs.Str.Parse.{digits_value}
 use Rattle.csv_tables.proofs.CellLemmas.{numerals}
 use Rattle.options.specs.Numeral.{numeral_of, below, is_numeral}
 use Rattle.options.proofs.NumeralLemmas.{below-value}

@@ -3,7 +3,7 @@ use Rattle.std.specs.Prelude.{◌≡◌, ℕ, ◌+◌, ◌≤◌, List, ◌++◌
 use Rattle.std.specs.Io.KnownBytes.{Appends, Consumes, IsAtEnd}
 use Rattle.rm_base.specs.declared.limits.TheConstants.{SCRIPT_MOST}
 use Rattle.sessions.specs.declared.failure.Failure.{Failure}
-use Rattle.sessions.specs.declared.failure.Failure.TheVariants.{Usage, BadLine, ReadFault, ShelfFault, WriteFault, BadTable, Memory, TooLong}
+use Rattle.sessions.specs.declared.failure.Failure.TheVariants.{Usage, BadLine, ReadFault, ShelfFault, WriteFault, BadTable, OpenFault, CommitFault, Memory, TooLong, Unsound}
 use Rattle.sessions.specs.World.{Seen, HasFailed}
 
 -- a front of the bytes that were left was read, of at most one byte more than a script may have
@@ -32,8 +32,11 @@ ExplainsInput old new ReadFault = HasFailed old new
 ExplainsInput old new ShelfFault = ⊥
 ExplainsInput old new WriteFault = ⊥
 ExplainsInput old new BadTable = ⊥
+ExplainsInput old new OpenFault = ⊥
+ExplainsInput old new CommitFault = ⊥
 ExplainsInput old new Memory = Unit {0}
 ExplainsInput old new TooLong = IsTooLong old.told new.told
+ExplainsInput old new Unsound = ⊥
 
 -- the front of a text was written, and no more
 pub record WroteFront (before now : Option (List ℕ)) (text : List ℕ) : Type 0 where
@@ -50,5 +53,8 @@ ExplainsOutput old new text ReadFault = ⊥
 ExplainsOutput old new text ShelfFault = ⊥
 ExplainsOutput old new text WriteFault = WroteFront old.told new.told text × HasFailed old new
 ExplainsOutput old new text BadTable = ⊥
+ExplainsOutput old new text OpenFault = ⊥
+ExplainsOutput old new text CommitFault = ⊥
 ExplainsOutput old new text Memory = WroteFront old.told new.told text
 ExplainsOutput old new text TooLong = ⊥
+ExplainsOutput old new text Unsound = ⊥

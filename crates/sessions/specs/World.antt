@@ -1,5 +1,5 @@
 -- What a script has around it, at a moment: what is told of each part, and the faults that the part has counted.
-use Rattle.std.specs.Prelude.{◌≡◌, ℕ, List, Option, Some, None}
+use Rattle.std.specs.Prelude.{◌≡◌, ℕ, List, Option, Some}
 use Rattle.rm_outside.specs.declared.source.Source.{Ghosts as SourceGhosts}
 use Rattle.rm_outside.specs.declared.sink.Sink.{Ghosts as SinkGhosts}
 use Rattle.rm_outside.specs.declared.shelf.Shelf.{Ghosts as ShelfGhosts}
@@ -7,7 +7,8 @@ use Rattle.rm_outside.specs.declared.spool.Spool.{Ghosts as SpoolGhosts}
 use Rattle.rm_outside.specs.declared.keeper.Keeper.{Ghosts as KeeperGhosts}
 use Rattle.rm_outside.specs.Faults.{Rose}
 use Rattle.rm_outside.specs.Spool.{Files}
-use Rattle.rm_outside.specs.Stored.{StoredRows}
+use Rattle.rm_base.specs.declared.definitions.Definitions.{Definitions}
+use Rattle.rm_outside.specs.Stored.{StoredRows, rows_of}
 
 -- what is told of a part, and how many faults it has counted
 pub record Seen (A : Type 0) : Type 0 where
@@ -52,24 +53,22 @@ seen_world sources sinks shelves spools keepers input out shelf spool keeper = r
 abbrev pub HasFailed : {A : Type 0} → Seen A → Seen A → Type 0
 HasFailed old new = Rose old.faults new.faults
 
--- no fault was counted; the spool and the keeper are not called yet
+-- no fault was counted; the spool is not called yet
 pub record CountsNoFault (old new : World) : Type 0 where
   pub input : HasFailed old.input new.input → ⊥
   pub output : HasFailed old.output new.output → ⊥
   pub shelf : HasFailed old.shelf new.shelf → ⊥
+  pub keeper : HasFailed old.keeper new.keeper → ⊥
 
 -- what holds of what is told, where it is
 abbrev pub WhereTold : {A : Type 0} → Option A → (A → Type 0) → Type 0
 WhereTold {A} told P = (x : A) → told ≡ Some x → P x
 
--- this is what is told, or nothing is told
-abbrev pub IsAsTold : {A : Type 0} → Option A → A → Type 0
-IsAsTold None x = Unit {0}
-IsAsTold (Some told) x = x ≡ told
-
--- what a script is given: the bytes that are left of its input, the files that it may load, and the rows that are
--- stored; of the last it reads nothing yet, so they may be any where they are not told
-pub record IsGiven (world : World) (bytes : List ℕ) (files : List ℕ → Option (List ℕ)) (stored : StoredRows) : Type 0 where
+-- what a script is given: the bytes that are left of its input, and the files that it may load
+pub record IsGiven (world : World) (bytes : List ℕ) (files : List ℕ → Option (List ℕ)) : Type 0 where
   pub of_input : world.input.told ≡ Some bytes
   pub of_shelf : world.shelf.told ≡ Some files
-  pub of_keeper : IsAsTold world.keeper.told stored
+
+-- the rows that a store tells, where it tells any, are those of these definitions
+abbrev pub TellsRows : Option StoredRows → Definitions → Type 0
+TellsRows told definitions = WhereTold told (λ rows. rows ≡ rows_of definitions)

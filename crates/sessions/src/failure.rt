@@ -1,10 +1,12 @@
 //! Why a script fails, and with which status a script ends.
 
 ghost use Rattle.std.specs.Prelude.{◌≡◌};
-ghost use Rattle.sessions.specs.Failures.{read_failure, write_failure, status_of};
+ghost use Rattle.sessions.specs.Failures.{read_failure, write_failure, commit_failure, status_of};
 
+use keeper_rows::opening::OpenError;
 use options::status::{
-    BAD_LINE, BAD_TABLE, DONE, NO_MEMORY, READ_FAULT, Status, TOO_LONG, USAGE, WRITE_FAULT,
+    BAD_LINE, BAD_TABLE, DONE, KEEPER_FAULT, NO_MEMORY, READ_FAULT, Status, TOO_LONG, UNSOUND,
+    USAGE, WRITE_FAULT,
 };
 use rm_outside::outside::Outside;
 use std::alloc::AllocError;
@@ -18,8 +20,14 @@ pub enum Failure {
     ShelfFault,
     WriteFault,
     BadTable,
+    /// The stored definitions could not be read.
+    OpenFault,
+    /// The definitions that an accepted statement leaves could not be stored.
+    CommitFault,
     Memory,
     TooLong,
+    /// The stored definitions are not sound on this machine.
+    Unsound,
 }
 
 impl From<AllocError> for Failure {
@@ -30,6 +38,21 @@ impl From<AllocError> for Failure {
 
     fn from(_: AllocError) -> Self {
         Failure::Memory
+    }
+}
+
+impl From<OpenError> for Failure {
+    ghost use Rattle.std.specs.Prelude.{◌≡◌};
+    ghost use Rattle.sessions.specs.Failures.{open_failure};
+
+    ghost from_gives = { λ error failure. failure ≡ open_failure error };
+
+    fn from(error: OpenError) -> Self {
+        match error {
+            OpenError::Failed => Failure::OpenFault,
+            OpenError::Unsound => Failure::Unsound,
+            OpenError::Memory => Failure::Memory,
+        }
     }
 }
 
@@ -53,6 +76,16 @@ pub fn write_failure(error: Outside) -> Failure
     }
 }
 
+/// Why a script fails whose store answers this to a commit.
+pub fn commit_failure(error: Outside) -> Failure
+    ensures { result ≡ commit_failure error }
+{
+    match error {
+        Outside::Failed => Failure::CommitFault,
+        Outside::Memory => Failure::Memory,
+    }
+}
+
 /// The status of a script that came to the end of its lines, or failed.
 pub fn status_of(ended: Result<(), Failure>) -> Status
     ensures { result.0 ≡ status_of ended }
@@ -65,7 +98,10 @@ pub fn status_of(ended: Result<(), Failure>) -> Status
         Err(Failure::ShelfFault) => READ_FAULT,
         Err(Failure::WriteFault) => WRITE_FAULT,
         Err(Failure::BadTable) => BAD_TABLE,
+        Err(Failure::OpenFault) => KEEPER_FAULT,
+        Err(Failure::CommitFault) => KEEPER_FAULT,
         Err(Failure::Memory) => NO_MEMORY,
         Err(Failure::TooLong) => TOO_LONG,
+        Err(Failure::Unsound) => UNSOUND,
     })
 }

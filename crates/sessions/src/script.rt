@@ -9,7 +9,7 @@ ghost use Rattle.sessions.specs.Texts.{bare_text};
 use crate::answer::{Answer, run_plan};
 use crate::command::{Command, Request, read_command};
 use crate::comments::is_comment;
-use crate::failure::Failure;
+use crate::failure::{Failure, commit_failure};
 use crate::held::{Held, has_session, place_of};
 use crate::host::Host;
 use crate::lines::readable;
@@ -23,9 +23,8 @@ use crate::texts::{
 use csv_tables::load_error::LoadError;
 use csv_tables::tables::Tables;
 use machine::desk::Desk;
-use options::script::ScriptOptions;
 use pool_sql::reading::{ReadError, read_statement};
-use pool_table::accept;
+use pool_table::{accept, apply};
 use query_plan::plan::Plan;
 use query_plan::reading::{ReadError as SelectError, read_select};
 use rm_base::definitions::Definitions;
@@ -36,6 +35,7 @@ use rm_base::name::Name;
 use rm_base::refusal::Refusal;
 use rm_base::reply::Reply;
 use rm_base::statement::Statement;
+use rm_outside::keeper::Keeper;
 use rm_outside::shelf::{Shelf, ShelfError};
 use rm_outside::spool::Spool;
 use std::alloc::{AllocError, Global};
@@ -76,7 +76,9 @@ pub enum Turned {
 }
 
 impl Script {
-    ghost use Rattle.std.specs.Prelude.{◌≡◌, ◌≤◌, true, false, [], Some, Ok, IfOk, IfErr, OnOk, IsSome, string_bytes};
+    ghost use Rattle.std.specs.Prelude.{◌≡◌, ◌≤◌, ◌⊎◌, true, false, [], Some, Ok, IfOk, IfErr, IfSome, OnOk, OnErr, IsOk, IsSome, string_bytes};
+    ghost use Rattle.rm_outside.specs.Stored.{rows_of};
+    ghost use Rattle.rm_rules.specs.Acceptance.{accepted};
     ghost use Rattle.rm_base.specs.Ranges.{is_statement_in_range};
     ghost use Rattle.rm_base.specs.WellFormed.{IsWellFormed};
     ghost use Rattle.rm_rules.specs.Step.{step};
@@ -84,24 +86,22 @@ impl Script {
     ghost use Rattle.rm_rules.specs.Sound.{IsSound};
     ghost use Rattle.pool_sql.specs.Reading.{read_of};
     ghost use Rattle.sessions.specs.Commands.{seen_command, seen_request, SetPool, SetCap, Ask, Poll, Check, Close};
-    ghost use Rattle.options.specs.Within.{AreWithin};
-    ghost use Rattle.sessions.specs.Script.{first_state, line_turn};
+    ghost use Rattle.sessions.specs.Script.{Files, first_state, line_turn};
     ghost use Rattle.csv_tables.specs.Loading.{table_of};
     ghost use Rattle.query_run.specs.Running.{IsRunnable};
     ghost use Rattle.sessions.specs.Plans.{plan_of};
     ghost use Rattle.sessions.specs.Turns.{Goes, turn, at_turn, read_turn, statement_turn, open_turn, chosen_turn, after_open, session_turn, query_turn, query_for, after_submit, after_poll, way_turn, after_finish, done_text, finish_turn, end_turn, checked_turn, done_turn, cancel_turn, table_turn, loaded_turn, show_turn, has_no_place};
     ghost use Rattle.machine.specs.Looked.{snapshot_of};
     ghost use Rattle.system_tables.specs.TableRows.{shown_of};
-    ghost use Rattle.sessions.specs.World.{WhereTold, seen_shelf};
+    ghost use Rattle.sessions.specs.World.{WhereTold, TellsRows, seen_shelf, seen_keeper};
     ghost use Rattle.sessions.specs.SessionNames.{has_session, place_named, session_named};
-    ghost use Rattle.sessions.specs.Running.{seen_turn, keeps_sessions, DoesRequest, Makes, IsLineFault, IsCommandFault, IsLoadFault};
+    ghost use Rattle.sessions.specs.Running.{seen_turn, keeps_sessions, DoesRequest, Makes, IsLineFault, IsCommandFault, IsLoadFault, IsCommitFault, IsTextFault, IsStatementFault, IsStoredBy};
 
-    /// A script before its first line.
-    pub fn new(alloc: Global, options: ScriptOptions) -> Result<Script, AllocError>
-        requires { AreWithin options }
-        ensures { IfOk result (λ s. s ≡ first_state options) }
+    /// A script before its first line, which begins with these definitions.
+    pub fn new(alloc: Global, definitions: Definitions) -> Result<Script, AllocError>
+        requires { IsSound definitions }
+        ensures { IfOk result (λ s. s ≡ first_state definitions) }
     {
-        let definitions = Definitions::new(alloc, options.memory, options.cores)?;
         Ok(Script {
             desk: Desk::new(alloc, definitions, SCRIPT_ROOM)?,
             held: Vec::new(alloc),
@@ -112,16 +112,26 @@ impl Script {
     }
 
     /// Does what a line says.
-    pub fn take_line<H: Shelf, P: Spool>(
+    ///
+    /// The rows that are stored, where they are told, are those of the definitions in force, before it and behind it.
+    pub fn take_line<H: Shelf, P: Spool, K: Keeper>(
         &mut self,
         alloc: Global,
         shelf: &mut H,
         spool: &mut P,
+        keeper: &mut K,
         line: &[u8],
     ) -> Result<Turned, Failure>
+        requires { TellsRows (K.stored keeper.old) self.old.machine.definitions }
         ensures turn { IfOk result (λ t. WhereTold (H.files shelf.old) (λ files. seen_turn t self.new ≡ line_turn files self.old line.now)) }
-        ensures fault { IfErr result (IsLineFault line.now (seen_shelf H.Shelf shelf.old) (seen_shelf H.Shelf shelf.new)) }
+        ensures fault { IfErr result (IsLineFault line.now self.old.machine.definitions (seen_shelf H.Shelf shelf.old) (seen_shelf H.Shelf shelf.new)
+            (seen_keeper K.Keeper keeper.old) (seen_keeper K.Keeper keeper.new)) }
+        ensures kept { IfOk result (λ t. WhereTold (K.stored keeper.new) (IsStoredBy self.old.machine.definitions (seen_turn t self.new))) }
+        ensures left { IfErr result (λ f. WhereTold (K.stored keeper.new) (λ rows. (rows ≡ rows_of self.old.machine.definitions)
+            ⊎ ((files : Files) → IsStoredBy self.old.machine.definitions (line_turn files self.old line.now) rows))) }
+        ensures told { IsSome (K.stored keeper.new) → IsSome (K.stored keeper.old) }
         ensures later { H.faults shelf.old ≤ H.faults shelf.new }
+        ensures keeper_later { K.faults keeper.old ≤ K.faults keeper.new }
         ensures files { H.files shelf.new ≡ H.files shelf.old }
         ensures spool { spool.new ≡ spool.old }
     {
@@ -133,27 +143,35 @@ impl Script {
         }
         match read_command(alloc, line)? {
             None => Ok(Turned::Bad),
-            Some(command) => self.take_command(alloc, shelf, spool, command),
+            Some(command) => self.take_command(alloc, shelf, spool, keeper, command),
         }
     }
 
     /// Does what a command says.
-    fn take_command<H: Shelf, P: Spool>(
+    fn take_command<H: Shelf, P: Spool, K: Keeper>(
         &mut self,
         alloc: Global,
         shelf: &mut H,
         spool: &mut P,
+        keeper: &mut K,
         command: Command<'_>,
     ) -> Result<Turned, Failure>
+        requires { TellsRows (K.stored keeper.old) self.old.machine.definitions }
         ensures turn { IfOk result (λ t. WhereTold (H.files shelf.old) (λ files. seen_turn t self.new ≡ turn files self.old (seen_command command.entry))) }
-        ensures fault { IfErr result (IsCommandFault (seen_command command.entry) (seen_shelf H.Shelf shelf.old) (seen_shelf H.Shelf shelf.new)) }
+        ensures fault { IfErr result (IsCommandFault (seen_command command.entry) self.old.machine.definitions (seen_shelf H.Shelf shelf.old) (seen_shelf H.Shelf shelf.new)
+            (seen_keeper K.Keeper keeper.old) (seen_keeper K.Keeper keeper.new)) }
+        ensures kept { IfOk result (λ t. WhereTold (K.stored keeper.new) (IsStoredBy self.old.machine.definitions (seen_turn t self.new))) }
+        ensures left { IfErr result (λ f. WhereTold (K.stored keeper.new) (λ rows. (rows ≡ rows_of self.old.machine.definitions)
+            ⊎ ((files : Files) → IsStoredBy self.old.machine.definitions (turn files self.old (seen_command command.entry)) rows))) }
+        ensures told { IsSome (K.stored keeper.new) → IsSome (K.stored keeper.old) }
         ensures later { H.faults shelf.old ≤ H.faults shelf.new }
+        ensures keeper_later { K.faults keeper.old ≤ K.faults keeper.new }
         ensures files { H.files shelf.new ≡ H.files shelf.old }
         ensures spool { spool.new ≡ spool.old }
     {
         match command {
             Command::At(moment) => Ok(self.move_to(alloc, moment)),
-            Command::Sql(text) => Ok(self.take_text(alloc, text)?),
+            Command::Sql(text) => self.take_text(alloc, keeper, text),
             Command::Open {
                 session,
                 user,
@@ -179,29 +197,94 @@ impl Script {
     }
 
     /// `sql TEXT`
-    fn take_text(&mut self, alloc: Global, text: &str) -> Result<Turned, AllocError>
-        ensures { IfOk result (λ t. seen_turn t self.new ≡ read_turn self.old (read_of text.now)) }
+    fn take_text<K: Keeper>(
+        &mut self,
+        alloc: Global,
+        keeper: &mut K,
+        text: &str,
+    ) -> Result<Turned, Failure>
+        requires { TellsRows (K.stored keeper.old) self.old.machine.definitions }
+        ensures turn { IfOk result (λ t. seen_turn t self.new ≡ read_turn self.old (read_of text.now)) }
+        ensures fault { IfErr result (IsTextFault text.now self.old.machine.definitions (seen_keeper K.Keeper keeper.old) (seen_keeper K.Keeper keeper.new)) }
+        ensures kept { IfOk result (λ t. WhereTold (K.stored keeper.new) (IsStoredBy self.old.machine.definitions (seen_turn t self.new))) }
+        ensures left { IfErr result (λ f. WhereTold (K.stored keeper.new) (λ rows. (rows ≡ rows_of self.old.machine.definitions)
+            ⊎ IsStoredBy self.old.machine.definitions (read_turn self.old (read_of text.now)) rows)) }
+        ensures told { IsSome (K.stored keeper.new) → IsSome (K.stored keeper.old) }
+        ensures later { K.faults keeper.old ≤ K.faults keeper.new }
     {
         match read_statement(alloc, text) {
-            Ok(statement) => self.take_statement(alloc, &statement),
-            Err(ReadError::Refused(refusal)) => refused(alloc, refusal),
-            Err(ReadError::Memory) => Err(AllocError),
+            Ok(statement) => self.take_statement(alloc, keeper, &statement),
+            Err(ReadError::Refused(refusal)) => Ok(refused(alloc, refusal)?),
+            Err(ReadError::Memory) => Err(Failure::Memory),
         }
     }
 
     /// A statement that was read. It changes nothing unless it is accepted.
-    fn take_statement(&mut self, alloc: Global, statement: &Statement) -> Result<Turned, AllocError>
+    fn take_statement<K: Keeper>(
+        &mut self,
+        alloc: Global,
+        keeper: &mut K,
+        statement: &Statement,
+    ) -> Result<Turned, Failure>
         requires well_formed { IsWellFormed statement.now }
         requires in_range { is_statement_in_range statement.now ≡ true }
-        ensures { IfOk result (λ t. seen_turn t self.new ≡ statement_turn self.old statement.now) }
+        requires agrees { TellsRows (K.stored keeper.old) self.old.machine.definitions }
+        ensures turn { IfOk result (λ t. seen_turn t self.new ≡ statement_turn self.old statement.now) }
+        ensures fault { IfErr result (IsStatementFault (accepted self.old.machine.definitions statement.now) (seen_keeper K.Keeper keeper.old) (seen_keeper K.Keeper keeper.new)) }
+        ensures kept { IfOk result (λ t. WhereTold (K.stored keeper.new) (IsStoredBy self.old.machine.definitions (seen_turn t self.new))) }
+        ensures left { IfErr result (λ f. WhereTold (K.stored keeper.new) (λ rows. (rows ≡ rows_of self.old.machine.definitions)
+            ⊎ IsStoredBy self.old.machine.definitions (statement_turn self.old statement.now) rows)) }
+        ensures told { IsSome (K.stored keeper.new) → IsSome (K.stored keeper.old) }
+        ensures later { K.faults keeper.old ≤ K.faults keeper.new }
     {
         match accept(self.definitions(), statement) {
             Ok(()) => {
-                let reply = self.call(&Event::Define(*statement));
-                Ok(Turned::Goes(bare_text(alloc, reply)?))
+                self.store(alloc, keeper, statement)?;
+                Ok(self.define(alloc, statement)?)
             }
-            Err(refusal) => refused(alloc, refusal),
+            Err(refusal) => Ok(refused(alloc, refusal)?),
         }
+    }
+
+    /// Stores the definitions that an accepted statement leaves.
+    fn store<K: Keeper>(
+        &self,
+        alloc: Global,
+        keeper: &mut K,
+        statement: &Statement,
+    ) -> Result<(), Failure>
+        requires in_range { is_statement_in_range statement.now ≡ true }
+        requires accepted { IsOk (accepted self.now.machine.definitions statement.now) }
+        ensures ok { OnOk result (WhereTold (K.stored keeper.new) (λ rows. IfOk (accepted self.now.machine.definitions statement.now) (λ next. rows ≡ rows_of next))) }
+        ensures err { OnErr result (IfSome (K.stored keeper.new) (λ rows. K.stored keeper.old ≡ Some rows)) }
+        ensures fault { IfErr result (IsCommitFault (seen_keeper K.Keeper keeper.old) (seen_keeper K.Keeper keeper.new)) }
+        ensures told { IsSome (K.stored keeper.new) → IsSome (K.stored keeper.old) }
+        ensures later { K.faults keeper.old ≤ K.faults keeper.new }
+    {
+        let next = self.left_by(alloc, statement)?;
+        keeper.commit(alloc, &next).map_err(commit_failure)
+    }
+
+    /// The definitions that an accepted statement leaves.
+    fn left_by(&self, alloc: Global, statement: &Statement) -> Result<Definitions, AllocError>
+        requires in_range { is_statement_in_range statement.now ≡ true }
+        requires accepted { IsOk (accepted self.now.machine.definitions statement.now) }
+        ensures next { IfOk result (λ next. accepted self.now.machine.definitions statement.now ≡ Ok next) }
+        ensures sound { IfOk result IsSound }
+    {
+        let mut next = self.definitions().copy(alloc)?;
+        apply(&mut next, statement);
+        Ok(next)
+    }
+
+    /// Defines what an accepted statement says.
+    fn define(&mut self, alloc: Global, statement: &Statement) -> Result<Turned, AllocError>
+        requires well_formed { IsWellFormed statement.now }
+        requires accepted { IsOk (accepted self.old.machine.definitions statement.now) }
+        ensures { IfOk result (λ t. seen_turn t self.new ≡ statement_turn self.old statement.now) }
+    {
+        let reply = self.call(&Event::Define(*statement));
+        Ok(Turned::Goes(bare_text(alloc, reply)?))
     }
 
     /// `open S USER` or `open S USER POOL`
@@ -610,6 +693,7 @@ impl Script {
     ) -> Result<Turned, Failure>
         ensures turn { IfOk result (λ t. WhereTold (H.files shelf.old) (λ files. seen_turn t self.new ≡ table_turn files self.old name path.now)) }
         ensures fault { IfErr result (IsLoadFault (seen_shelf H.Shelf shelf.old) (seen_shelf H.Shelf shelf.new)) }
+        ensures machine { self.new.machine ≡ self.old.machine }
         ensures later { H.faults shelf.old ≤ H.faults shelf.new }
         ensures files { H.files shelf.new ≡ H.files shelf.old }
     {
@@ -628,7 +712,8 @@ impl Script {
     /// Adds the table of a file.
     fn add_table(&mut self, alloc: Global, name: Name, bytes: &[u8]) -> Result<Turned, AllocError>
         requires { has_no_place self.old.tables name ≡ false }
-        ensures { IfOk result (λ t. seen_turn t self.new ≡ loaded_turn self.old name (table_of bytes.now)) }
+        ensures turn { IfOk result (λ t. seen_turn t self.new ≡ loaded_turn self.old name (table_of bytes.now)) }
+        ensures machine { self.new.machine ≡ self.old.machine }
     {
         match csv_tables::load::load(alloc, bytes) {
             Ok(table) => {

@@ -34,11 +34,11 @@ some-none : {A : Type 0} (o : Option A) → IsSome o → o ≡ None → ⊥
 some-none None some none = false≢true some
 some-none (Some x) some none = absurd (cc)
 
-unknown : (o : Option WorkloadOptions) (old new : Output) (r : Ended) → EndsAs o old new r → o ≡ None → status_of r ≡ USAGE
+unknown : (o : Option WorkloadOptions) (old new : Output) (r : Ended) → EndsAs o old new r → o ≡ None → (status_of r ≡ USAGE) ⊎ (status_of r ≡ NO_MEMORY)
 unknown o old new (Ok done) h none = absurd (some-none o h.0 none)
-unknown o old new (Err Usage) h none = refl
+unknown o old new (Err Usage) h none = inl refl
 unknown o old new (Err WriteFault) h none = absurd (some-none o h.0 none)
-unknown o old new (Err Memory) h none = absurd (some-none o h.0 none)
+unknown o old new (Err Memory) h none = inr refl
 
 known : (r : Ended) → (status_of r ≡ DONE) ⊎ ((status_of r ≡ USAGE) ⊎ ((status_of r ≡ WRITE_FAULT) ⊎ (status_of r ≡ NO_MEMORY)))
 known (Ok done) = inl refl
@@ -68,7 +68,7 @@ no_memory : (o : Option WorkloadOptions) (old new : Output) (r : Ended) → Ends
 no_memory o old new (Ok done) h is = absurd (omega (arith, is))
 no_memory o old new (Err Usage) h is = absurd (omega (arith, is))
 no_memory o old new (Err WriteFault) h is = absurd (omega (arith, is))
-no_memory o old new (Err Memory) h is = h.1
+no_memory o old new (Err Memory) h is = h
 
 front : (o : Option WorkloadOptions) (old new : Output) (r : Ended) → EndsAs o old new r → (status_of r ≡ WRITE_FAULT) ⊎ (status_of r ≡ NO_MEMORY) → WroteFront old new (text_by o)
 front o old new r h (inl is) = (write_fault o old new r h is).0
@@ -79,7 +79,8 @@ is_workload words old new r h =
     let o = workload_options words in
     record {
       exact = exact o old new r h;
-      usage = (λ is. (usage o old new r h is).0, unknown o old new r h);
+      usage = λ is. (usage o old new r h is).0;
+      outside = unknown o old new r h;
       write_fault = λ is. (write_fault o old new r h is).1;
       known = known r;
       own = own o old new r h;

@@ -1,5 +1,5 @@
 -- How a workload ends, and what its end leaves.
-use Rattle.std.specs.Prelude.{◌≡◌, ◌≢◌, ◌↔◌, ◌⊎◌, ◌≤◌, ℕ, List, [], ◌++◌, Option, Some, None, IsSome, IfSome, Result, Ok, Err}
+use Rattle.std.specs.Prelude.{◌≡◌, ◌≢◌, ◌⊎◌, ◌≤◌, ℕ, List, [], ◌++◌, Option, Some, None, IsSome, IfSome, Result, Ok, Err}
 use Rattle.std.specs.Io.KnownBytes.{Appends, Keeps}
 use Rattle.rm_outside.specs.declared.sink.Sink.{Ghosts as SinkGhosts}
 use Rattle.rm_outside.specs.Faults.{Rose}
@@ -57,14 +57,15 @@ abbrev pub EndsAs : Option WorkloadOptions → Output → Output → Result (Uni
 EndsAs options old new (Ok done) = IsSome options × WroteWhole old new (text_by options)
 EndsAs options old new (Err Usage) = (options ≡ None) × Keeps old.told new.told
 EndsAs options old new (Err WriteFault) = IsSome options × WroteFront old new (text_by options) × HasFailed old new
-EndsAs options old new (Err Memory) = IsSome options × WroteFront old new (text_by options)
+EndsAs options old new (Err Memory) = WroteFront old new (text_by options)
 
 -- what a workload leaves, by the words of the command line and its status
 pub record IsWorkload (words : List (List ℕ)) (old new : Output) (status : ℕ) : Type 0 where
   -- where no fault was counted and memory was not wanting, the text is that of the words
   pub exact : (HasFailed old new → ⊥) → status ≢ NO_MEMORY → WroteWhole old new (summary_text words)
   -- when each status comes
-  pub usage : (status ≡ USAGE) ↔ (workload_options words ≡ None)
+  pub usage : status ≡ USAGE → workload_options words ≡ None
+  pub outside : workload_options words ≡ None → (status ≡ USAGE) ⊎ (status ≡ NO_MEMORY)
   pub write_fault : status ≡ WRITE_FAULT → HasFailed old new
   pub known : (status ≡ DONE) ⊎ ((status ≡ USAGE) ⊎ ((status ≡ WRITE_FAULT) ⊎ (status ≡ NO_MEMORY)))
   -- what was written, whatever was counted

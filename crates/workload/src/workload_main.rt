@@ -27,7 +27,7 @@ fn run_words<O: Sink, P: Spool, C: Clock>(
     ensures later { O.faults out.old ≤ O.faults out.new }
     ensures spools { map (λ kit. kit.spool) kits.new.items ≡ map (λ kit. kit.spool) kits.old.items }
 {
-    let options = workload_options(words).ok_or(Failure::Usage)?;
+    let options = workload_options(alloc, words)?.ok_or(Failure::Usage)?;
     let text = run_workload(alloc, &options, &mut kits[0])?;
     write_text(out, text.as_bytes())
 }

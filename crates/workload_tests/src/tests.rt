@@ -3,6 +3,7 @@
 ghost use Rattle.std.specs.Prelude.{◌≡◌, length, map, string_bytes, IfOk};
 ghost use Rattle.workload.specs.Ended.{HasKits};
 
+use crate::words::words_of;
 use options::status::{DONE, Status, USAGE, WRITE_FAULT};
 use options::workload::workload_options;
 use rm_base::moment::Moment;
@@ -14,15 +15,6 @@ use std::alloc::Global;
 use std::test::Fail;
 use workload::kit::Kit;
 use workload::workload_main::workload_main;
-
-/// The words of a line.
-fn words_of(alloc: Global, line: &str) -> Result<Vec<String>, Fail> {
-    let mut words = Vec::new(alloc);
-    for word in line.split(' ') {
-        words.push(String::from_str(alloc, word)?)?;
-    }
-    Ok(words)
-}
 
 /// So many kits, whose clocks stand still at a moment.
 fn kits_of(alloc: Global, count: u32, at: u64) -> Result<Vec<Kit<MemorySpool, MemoryClock>>, Fail>
@@ -48,7 +40,7 @@ fn kits_for(
 ) -> Result<Vec<Kit<MemorySpool, MemoryClock>>, Fail>
     ensures { IfOk result (λ kits. HasKits (map string_bytes words.now) (length kits.items)) }
 {
-    let workers = match workload_options(words) {
+    let workers = match workload_options(alloc, words)? {
         Some(options) => options.workers,
         None => 0,
     };

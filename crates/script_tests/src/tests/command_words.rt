@@ -18,6 +18,13 @@ a admitted 23658496 general 23658496 0
 a released 23658496
 a refused 19 pool 999999999999999 99614720
 ====
+script --cores=8 --memory 100M
+---- 0
+a opened 1
+a admitted 23658496 general 23658496 0
+a released 23658496
+a refused 19 pool 999999999999999 99614720
+====
 script --memory 16M --cores 1
 ---- 0
 a opened 1
@@ -81,7 +88,6 @@ fn machines_are_as_the_words_say(rt: HostRuntime) -> Result<(), Fail> {
 static USAGE: &str = "\
 script
 script --memory 100M
-script --cores 8 --memory 100M
 script --memory 100M --cores 8 --cores 8
 script --memory 100M --cores 8 8
 script --memory 100M  --cores 8
@@ -90,7 +96,6 @@ Script --memory 100M --cores 8
 serve --memory 100M --cores 8
 script -memory 100M --cores 8
 script --Memory 100M --cores 8
-script --memory=100M --cores=8
 script --memory 16383K --cores 8
 script --memory 15M --cores 8
 script --memory 0G --cores 8

@@ -1,5 +1,6 @@
 use Rattle.std.proofs.Common.{◌≡◌, ◌≤◌, ◌+◌, length}
-use Rattle.sessions.specs.World.{WhereTold}
+use Rattle.std.specs.Prelude.{IsSome}
+use Rattle.sessions.specs.World.{WhereTold, TellsRows}
 use Rattle.sessions.proofs.RunLemmas.{HasRun}
 use Rattle.sessions.proofs.run.run_lines.Given as goal
 
@@ -7,6 +8,9 @@ abbrev pub invariant-loop-line : goal.invariant-loop-line
 invariant-loop-line g l = record {
   later : g.O.Sink.faults l.initial.out ≤ g.O.Sink.faults l.out;
   shelf_later : g.H.Shelf.faults l.initial.shelf ≤ g.H.Shelf.faults l.shelf;
+  keeper_later : g.K.Keeper.faults l.initial.keeper ≤ g.K.Keeper.faults l.keeper;
+  told : IsSome (g.K.Keeper.stored l.keeper) → IsSome (g.K.Keeper.stored l.initial.keeper);
+  agrees : TellsRows (g.K.Keeper.stored l.keeper) l.script.machine.definitions;
   files : g.H.Shelf.files l.shelf ≡ g.H.Shelf.files l.initial.shelf;
   spool : l.spool ≡ l.initial.spool;
   counted : l.number + length l.rest ≤ length l.bytes + 1;
