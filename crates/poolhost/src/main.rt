@@ -10,11 +10,12 @@ ghost use Rattle.workload.specs.Ended.{HasKits};
 
 use adapters::{FileShelf, ReaderSource, WriterSink};
 use keeper_rows::sql_keeper::SqlKeeper;
-use options::status::{DONE, KEEPER_FAULT, NO_MEMORY, Status, USAGE, WRITE_FAULT};
+use options::status::{DONE, KEEPER_FAULT, NO_MEMORY, Status, UNSOUND, USAGE, WRITE_FAULT};
 use options::{Command, Options, options_of};
 use rm_outside::keeper::Keeper;
 use rm_outside::memory_keeper::MemoryKeeper;
 use rm_outside::memory_spool::MemorySpool;
+use rm_outside::outside::Outside;
 use sessions::script_main::script_main;
 use sqlite::{Connection, Error, ErrorCode, File, FileStore};
 use std::alloc::{AllocError, Global};
@@ -113,16 +114,31 @@ fn open_store(rt: &HostRuntime, path: &str) -> Result<SqlKeeper<FileStore<File>>
     }
 }
 
+/// The status of a program that can't close its store.
+fn unclosed(error: Outside) -> Status {
+    Status(match error {
+        Outside::Failed => KEEPER_FAULT,
+        Outside::Memory => NO_MEMORY,
+    })
+}
+
 /// Closes the store, so that the file holds all of it; answers the status of a program that has come to one so far.
+///
+/// A store that failed or was refused is left as it is, with its log.
 fn close_store(rt: &HostRuntime, keeper: SqlKeeper<FileStore<File>>, status: Status) -> Status {
-    if keeper.close().is_ok() {
+    if status == Status(KEEPER_FAULT) || status == Status(UNSOUND) {
         return status;
     }
-    let _ = rt.eprintln("poolhost: the store could not be closed");
-    if status == Status(DONE) {
-        Status(KEEPER_FAULT)
-    } else {
-        status
+    match keeper.close() {
+        Ok(()) => status,
+        Err(error) => {
+            let _ = rt.eprintln("poolhost: the store could not be closed");
+            if status == Status(DONE) {
+                unclosed(error)
+            } else {
+                status
+            }
+        }
     }
 }
 
