@@ -10,7 +10,9 @@ ghost use Rattle.workload.specs.Ended.{HasKits};
 
 use adapters::{FileShelf, ReaderSource, WriterSink};
 use keeper_rows::sql_keeper::SqlKeeper;
-use options::status::{DONE, KEEPER_FAULT, NO_MEMORY, Status, UNSOUND, USAGE, WRITE_FAULT};
+use options::status::{
+    BAD_LINE, BAD_TABLE, DONE, KEEPER_FAULT, NO_MEMORY, Status, USAGE, WRITE_FAULT,
+};
 use options::{Command, Options, options_of};
 use rm_outside::keeper::Keeper;
 use rm_outside::memory_keeper::MemoryKeeper;
@@ -122,11 +124,16 @@ fn unclosed(error: Outside) -> Status {
     })
 }
 
+/// Whether a script that ends with this status began with what its store gave, and no call of the store failed.
+fn has_used_the_store(status: Status) -> bool {
+    matches!(status.0, DONE | BAD_LINE | WRITE_FAULT | BAD_TABLE)
+}
+
 /// Closes the store, so that the file holds all of it; answers the status of a program that has come to one so far.
 ///
-/// A store that failed or was refused is left as it is, with its log.
+/// A store that failed, was refused, or may never have been read is left as it is, with its log.
 fn close_store(rt: &HostRuntime, keeper: SqlKeeper<FileStore<File>>, status: Status) -> Status {
-    if status == Status(KEEPER_FAULT) || status == Status(UNSOUND) {
+    if !has_used_the_store(status) {
         return status;
     }
     match keeper.close() {
