@@ -3,6 +3,7 @@
 
 ghost use Rattle.std.specs.Prelude.{◌≡◌, ◌≤◌, ◌*◌, ◌↔◌, IsTrue, IsErr, IfOk, IfErr};
 ghost use Rattle.rm_base.specs.declared.limits.TheConstants.{MEMORY_MOST};
+ghost use Rattle.rm_base.specs.Ranges.{is_pool_in_range};
 ghost use Rattle.rm_rules.specs.Definitions.{pool_row, planned};
 ghost use Rattle.rm_rules.specs.Budget.{threshold, budget};
 ghost use Rattle.rm_rules.specs.Ask.{cap, least_cap, ask, is_too_large, too_large};
@@ -11,11 +12,13 @@ ghost use Rattle.rm_rules.specs.Sound.{IsSound};
 mod caps;
 mod shares;
 
-use crate::caps::{row_cap, row_least_cap};
-use crate::shares::{row_budget, row_planned, row_threshold};
+pub use crate::caps::{row_cap, row_least_cap};
+pub use crate::shares::row_threshold;
+use crate::shares::{row_budget, row_planned};
 use rm_base::definitions::Definitions;
 use rm_base::name::Name;
 use rm_base::refusal::Refusal;
+use rm_base::rows::PoolRow;
 use rm_rules::readings::pool_row;
 use rm_rules::state::Cap;
 
@@ -64,15 +67,25 @@ pub fn least_cap(definitions: &Definitions, pool: Name, user: Name) -> Cap
     row_least_cap(definitions, &pool_row(definitions, pool), user)
 }
 
+/// What a query of this user with this floor asks for in the pool of this row: where its floor is above the least cap, that
+/// cap.
+pub fn row_asked(definitions: &Definitions, row: &PoolRow, user: Name, floor: u64) -> u64
+    requires sound { IsSound definitions.now }
+    requires in_range { IsTrue (is_pool_in_range row.now) }
+    ensures value { result ≡ ask definitions.now row.now user floor }
+    ensures most { result ≤ 2 * MEMORY_MOST }
+{
+    let wanted = row_budget(definitions, row).max(floor);
+    wanted.min(row_least_cap(definitions, row, user).bytes)
+}
+
 /// What a query of this user with this floor asks for in the pool: where its floor is above the least cap, that cap.
 pub fn asked(definitions: &Definitions, pool: Name, user: Name, floor: u64) -> u64
     requires { IsSound definitions.now }
     ensures value { result ≡ ask definitions.now (pool_row definitions.now pool) user floor }
     ensures most { result ≤ 2 * MEMORY_MOST }
 {
-    let row = pool_row(definitions, pool);
-    let wanted = row_budget(definitions, &row).max(floor);
-    wanted.min(row_least_cap(definitions, &row, user).bytes)
+    row_asked(definitions, &pool_row(definitions, pool), user, floor)
 }
 
 /// What a query of this user with this floor asks for in the pool. A floor above the least cap is refused.
