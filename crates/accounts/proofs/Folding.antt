@@ -1,5 +1,5 @@
 -- What is left of the accounts where a pool is folded into GENERAL.
-use Rattle.std.proofs.Common.{◌≡◌, ℕ, Bool, true, false, not, cond, Some, ◌∷◌, find, refl, ap, arith}
+use Rattle.std.proofs.Common.{◌≡◌, ℕ, Bool, false, not, cond, Some, find, refl, ap, arith}
 use Rattle.rm_base.specs.declared.name.Name.{Name}
 use Rattle.rm_base.specs.Name.{same_name, general}
 use Rattle.rm_rules.specs.declared.state.Holding.{Holding}

@@ -32,7 +32,7 @@ use Rattle.accounts.specs.Sizes.{fallen_reserves}
 use Rattle.accounts.proofs.Sums.{sum_without_le}
 
 -- the start
-kept_first : (d : Definitions) → IsSound d → IsBalanced (first_holdings d)
+pub kept_first : (d : Definitions) → IsSound d → IsBalanced (first_holdings d)
 kept_first d sound =
     let rows = user_pools d.pools in
     let sizes = map (λ (r : PoolRow). r.memory) rows in
@@ -73,7 +73,7 @@ absent-count test (x ∷ xs) h =
       ap {B = ℕ} (λ (c : Bool). cond c 1 0) (or_left_false (test x) _ h),
     )
 
-same-number : (m n : ℕ) → nat_eq m n ≡ true → m ≡ n
+pub same-number : (m n : ℕ) → nat_eq m n ≡ true → m ≡ n
 same-number m n e = grind (arith, nat_tests)
 
 pub kept_taken : (h : Holdings) (query : ℕ) (pool : Name) (bytes : ℕ) → IsBalanced h → list_any (is_of query) h.grants ≡ false → has_name h.reserves pool ≡ true
@@ -112,7 +112,7 @@ unheld-turn : (es : List Reserve) (pool : Name) (g : Holding) (b : Bool) → sam
 unheld-turn es pool g true e absent there = absurd (false≢true (sym absent ∙ ap (λ n. has_name es n) (sym (same_name-eq g.pool pool e)) ∙ there))
 unheld-turn es pool g false e absent there = refl
 
-unheld : (es : List Reserve) (pool : Name) (gs : List Holding) → has_name es pool ≡ false → list_all (λ g. has_name es g.pool) gs ≡ true → used pool gs ≡ 0
+pub unheld : (es : List Reserve) (pool : Name) (gs : List Holding) → has_name es pool ≡ false → list_all (λ g. has_name es g.pool) gs ≡ true → used pool gs ≡ 0
 unheld es pool [] absent known = refl
 unheld es pool (g ∷ gs) absent known =
     omega (

@@ -1,5 +1,10 @@
 pub mod Sums
 pub mod Places
+pub mod Handing
+pub mod Changes
+pub mod Usages
+pub mod Pools
+pub mod Settled
 pub mod Turns
 pub mod Keeping
 pub mod Seen

@@ -14,7 +14,6 @@ use Rattle.rm_rules.specs.Shuffle.{grown_reserves, shuffled}
 use Rattle.rm_rules.proofs.Places.{without-found, without-absent, find-found, find-absent, before-found}
 use Rattle.accounts.specs.Accounts.{is_of, grant_of, before, no_account, account_of, taken, given_back, with_pool}
 use Rattle.rm_rules.specs.DropPool.{is_reserve_of, holding_beside, folded}
-use Rattle.accounts.specs.Moves.{moved_to}
 use Rattle.accounts.specs.Sizes.{fallen_reserves}
 
 -- a query more, and one pool more
@@ -56,15 +55,6 @@ grant-found a gs query i g same found there =
 
 pub grant-absent : (gs : List Holding) (query : ℕ) → let o : Option ℕ = None in position (is_of query) gs ≡ o → 0 ≡ grant_of gs query
 grant-absent gs query absent = sym (ap (λ (o : Option Holding). elim o [ Some x ↦ x.bytes | None ↦ 0 ]) (find-absent (is_of query) gs absent))
-
--- it is found at a place, and goes on behind the others
-pub moved-seen : (h a : Holdings) (gs new : List Holding) (query i : ℕ) (pool : Name) (g : Holding) → h ≡ a → gs ≡ remove h.grants i
-    → position (is_of query) a.grants ≡ Some i → g ≡ get_or h.grants i g → new ≡ gs ++ record { query = query; pool = pool; bytes = g.bytes } ∷ []
-    → record h { grants = new } ≡ moved_to a query pool
-moved-seen h a gs new query i pool g same rest found there items =
-    let left : Holdings = record h { grants = gs } in
-    taken-seen left (given_back a query) new query pool g.bytes (given-seen h a gs query i same rest found) items
-    ∙ ap (λ (n : ℕ). taken (given_back a query) query pool n) (grant-found a h.grants query i g (ap (λ (x : Holdings). x.grants) same) found there)
 
 -- its account
 abbrev in_account : Holdings → ℕ → Option Holding → Account

@@ -8,6 +8,7 @@ use Rattle.rm_rules.specs.Holdings.{Holdings, reserve_names}
 use Rattle.rm_rules.specs.Accounting.{granted, taken_up}
 use Rattle.accounts.specs.declared.holdings.Accounts.TheInside.{Inside}
 use Rattle.accounts.specs.Accounts.{has_name, is_of}
+use Rattle.accounts.specs.Numbers.{numbers_of}
 
 abbrev pub seen_holdings : Inside → Holdings
 seen_holdings a = record { in_force = a.in_force; reserves = a.reserves; grants = a.grants }
@@ -22,5 +23,7 @@ pub record IsBalanced (h : Holdings) : Type 0 where
   pub granted : granted h ≤ h.in_force
   pub in_force_most : h.in_force ≤ MEMORY_MOST
 
-abbrev pub AreBalanced : Inside → Type 0
-AreBalanced a = IsBalanced (seen_holdings a)
+-- The numbers kept are those of the reserves and the grants.
+pub record AreKept (a : Inside) : Type 0 where
+  pub balanced : IsBalanced (seen_holdings a)
+  pub numbers : a.kept ≡ numbers_of (seen_holdings a)

@@ -1,4 +1,5 @@
 pub mod Accounts
 pub mod Kept
 pub mod Moves
+pub mod Numbers
 pub mod Sizes

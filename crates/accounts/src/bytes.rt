@@ -1,7 +1,7 @@
 //! Bytes, as sums over the lists of reserves and grants.
-ghost use Rattle.std.specs.Prelude.{◌≡◌, ◌<◌, ◌≤◌, ◌+◌, ◌-◌, ◌^◌, length, sum_by};
+ghost use Rattle.std.specs.Prelude.{◌≡◌, ◌<◌, ◌≤◌, ◌+◌, ◌-◌, ◌^◌, sum_by};
 ghost use Rattle.rm_base.specs.Name.{general};
-ghost use Rattle.rm_rules.specs.Accounting.{used, running_in, own, debt, kept_back};
+ghost use Rattle.rm_rules.specs.Accounting.{used, own, debt, kept_back};
 ghost use Rattle.accounts.specs.Sizes.{held};
 
 use rm_base::name::Name;
@@ -26,14 +26,6 @@ pub fn used(grants: &[Holding], pool: Name) -> u64
     ensures most { result ≤ held grants.now }
 {
     sum_in(grants, pool)
-}
-
-/// How many of these queries run in the pool.
-pub fn running_in(grants: &[Holding], pool: Name) -> usize
-    ensures value { result ≡ running_in pool grants.now }
-    ensures most { result ≤ length grants.now }
-{
-    grants.iter().filter(|g| g.pool.same(pool)).count()
 }
 
 /// How much of its own bytes the pool uses.

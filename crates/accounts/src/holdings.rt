@@ -1,13 +1,16 @@
 //! The accounts of the running queries.
-ghost use Rattle.std.specs.Prelude.{◌≡◌, ◌<◌, ◌≤◌, ◌+◌, ◌^◌, true, false, length, position, slice_index, IfOk, IfSome};
+ghost use Rattle.std.specs.Prelude.{◌≡◌, ◌<◌, ◌≤◌, ◌+◌, ◌^◌, true, false, length, Some, find, position, slice_index, IfOk, IfSome};
 ghost use Rattle.rm_base.specs.declared.limits.TheConstants.{MEMORY_MOST, POOLS_MOST, SESSIONS_MOST};
 ghost use Rattle.rm_base.specs.Name.{same_name, general};
 ghost use Rattle.rm_rules.specs.Sound.{IsSound};
-ghost use Rattle.accounts.specs.Sizes.{held};
+ghost use Rattle.rm_rules.specs.State.{without};
+ghost use Rattle.accounts.specs.Numbers.{usage_made, size_at};
 
-use crate::bytes::{kept_back, lent, running_in, used};
-use crate::moves::{IfMoved, hand_over, lent_beside, running_beside, unused_beside, used_beside};
-use crate::sizes::{fall, first_reserves, grow};
+use crate::bytes::{kept_back, lent};
+use crate::moves::{IfMoved, hand_over};
+use crate::numbers::{Numbers, Usage, account_made, first_numbers, recount};
+use crate::sizes::{are_settled, fall, first_reserves, grow};
+use places::Guesses;
 use rm_base::bounded::Bounded;
 use rm_base::definitions::Definitions;
 use rm_base::entry::Account;
@@ -18,12 +21,14 @@ use rm_rules::state::{Holding, Reserve};
 use std::alloc::{AllocError, Global};
 use std::marker::Model;
 
-/// The memory in force, the pools with their actual sizes, and the running queries with their grants.
+/// The memory in force, the pools with their actual sizes, the running queries with their grants, and the numbers of these.
 #[derive(Debug, Drop)]
 pub struct Accounts {
     in_force: u64,
     reserves: Bounded<Reserve, POOLS_MOST>,
     grants: Bounded<Holding, SESSIONS_MOST>,
+    kept: Numbers,
+    places: Guesses,
 }
 
 impl Model for Accounts {
@@ -31,16 +36,16 @@ impl Model for Accounts {
 
     ghost Value = { Holdings };
 
-    ghost use Rattle.accounts.specs.Kept.{seen_holdings, AreBalanced};
+    ghost use Rattle.accounts.specs.Kept.{seen_holdings, AreKept};
 
     ghost view = { seen_holdings };
 
-    ghost invariant = { AreBalanced };
+    ghost invariant = { AreKept };
 }
 
 impl Accounts {
     ghost use Rattle.rm_rules.specs.Holdings.{reserve_names};
-    ghost use Rattle.rm_rules.specs.Accounting.{used, running_in, reserve_of, actual_of, own_of, unused_of, lent, free, need, account_behind};
+    ghost use Rattle.rm_rules.specs.Accounting.{used, running_in, reserve_of, actual_of, own_of, unused_of, lent, free, need, accounts};
     ghost use Rattle.rm_rules.specs.Shuffle.{shuffled};
     ghost use Rattle.accounts.specs.Accounts.{names_in, has_name, is_of, has_query, queries, grant_of, account_of, first_holdings, taken, given_back, with_pool};
     ghost use Rattle.rm_rules.specs.DropPool.{is_reserve_of, folded};
@@ -51,10 +56,16 @@ impl Accounts {
         requires sound { IsSound definitions.now }
         ensures { IfOk result (λ accounts. accounts ≡ first_holdings definitions.now) }
     {
+        let in_force = total(definitions);
+        let reserves = first_reserves(alloc, definitions.pools.rows())?;
+        let kept = first_numbers(alloc, in_force, reserves.rows())?;
+        let places = Guesses::of(reserves.rows());
         Ok(Accounts {
-            in_force: total(definitions),
-            reserves: first_reserves(alloc, definitions.pools.rows())?,
+            in_force,
+            reserves,
             grants: Bounded::new(alloc)?,
+            kept,
+            places,
         })
     }
 
@@ -73,12 +84,74 @@ impl Accounts {
         self.reserves.rows()
     }
 
+    /// The running queries with their grants, in their order.
+    pub fn grants(&self) -> &[Holding]
+        ensures { result.now ≡ self.now.grants }
+    {
+        self.grants.rows()
+    }
+
+    /// The accounts of the running queries, in their order.
+    pub fn accounts(&self) -> &[Account]
+        ensures { result.now ≡ accounts self.now }
+    {
+        self.kept.accounts.rows()
+    }
+
+    /// The reserves are found where they stand now.
+    fn note_places(&mut self)
+        ensures { self.new ≡ self.old }
+    {
+        self.places = Guesses::of(self.reserves.rows());
+    }
+
+    /// Where the pool's reserve stands; GENERAL has none.
+    fn place_of_reserve(&self, pool: Name) -> Option<usize>
+        ensures value { result ≡ position (is_reserve_of pool) self.now.reserves }
+        ensures within { IfSome result (λ place. place < length self.now.reserves) }
+    {
+        let reserves = self.reserves.rows();
+        if pool.same(Name::general()) {
+            return None;
+        }
+        self.places.place_of(reserves, pool)
+    }
+
+    /// The size of the pool whose reserve stands in this place; GENERAL reserves nothing.
+    fn size_at(&self, place: Option<usize>) -> u64
+        requires { IfSome place (λ i. i < length self.now.reserves) }
+        ensures { result ≡ size_at self.now.reserves place }
+    {
+        match place {
+            Some(i) => self.reserves.rows()[i].size,
+            None => 0,
+        }
+    }
+
+    /// The usage of the pool; of one that is not there nothing is used.
+    fn usage(&self, pool: Name) -> Usage
+        ensures value { result ≡ usage_made (actual_of self.now pool) (used pool self.now.grants) (running_in pool self.now.grants) }
+        ensures most { result.used ≤ MEMORY_MOST }
+        ensures few { result.running ≤ length self.now.grants }
+    {
+        match self.place_of_reserve(pool) {
+            Some(i) => self.kept.usages.rows()[i],
+            None => {
+                if pool.same(Name::general()) {
+                    self.kept.general
+                } else {
+                    Usage::none()
+                }
+            }
+        }
+    }
+
     /// What the pool's queries hold.
     pub fn used(&self, pool: Name) -> u64
         ensures value { result ≡ used pool self.now.grants }
         ensures most { result ≤ MEMORY_MOST }
     {
-        used(self.grants.rows(), pool)
+        self.usage(pool).used
     }
 
     /// GENERAL's use: its own queries' grants, and all that pools have borrowed.
@@ -86,7 +159,7 @@ impl Accounts {
         ensures value { result ≡ lent self.now }
         ensures most { result ≤ MEMORY_MOST }
     {
-        lent(self.grants.rows(), self.reserves.rows())
+        self.kept.lent
     }
 
     /// GENERAL's free bytes.
@@ -94,7 +167,7 @@ impl Accounts {
         ensures value { result ≡ free self.now }
         ensures most { result ≤ MEMORY_MOST }
     {
-        self.in_force - kept_back(self.reserves.rows()) - self.lent()
+        self.kept.free
     }
 
     /// The pool's reserve; GENERAL has none.
@@ -115,32 +188,13 @@ impl Accounts {
         }
     }
 
-    /// How much of its own bytes the pool uses; GENERAL has none.
-    fn own_of(&self, pool: Name) -> u64
-        ensures { result ≡ own_of self.now pool }
-    {
-        match self.reserve_of(pool) {
-            Some(e) => self.used(e.pool).min(e.size),
-            None => 0,
-        }
-    }
-
-    /// How much of its own bytes the pool does not use; GENERAL has none.
-    fn unused_of(&self, pool: Name) -> u64
-        ensures { result ≡ unused_of self.now pool }
-    {
-        match self.reserve_of(pool) {
-            Some(e) => e.size - self.used(e.pool).min(e.size),
-            None => 0,
-        }
-    }
-
     /// What a query of so many bytes would need of GENERAL's, beyond what its pool has unused.
     pub fn need(&self, pool: Name, bytes: u64) -> u64
         ensures value { result ≡ need self.now pool bytes }
         ensures most { result ≤ bytes }
     {
-        bytes - bytes.min(self.unused_of(pool))
+        let unused = self.actual(pool).saturating_sub(self.usage(pool).own);
+        bytes - bytes.min(unused)
     }
 
     /// How many queries run in the pool.
@@ -148,7 +202,9 @@ impl Accounts {
         ensures value { result ≡ running_in pool self.now.grants }
         ensures most { result ≤ SESSIONS_MOST }
     {
-        running_in(self.grants.rows(), pool) as u32
+        // No more run in the pool than run.
+        let _few = self.count();
+        self.usage(pool).running
     }
 
     /// How many queries run.
@@ -177,34 +233,13 @@ impl Accounts {
         grants.iter().position(|g| g.query == query)
     }
 
-    /// The account of a query that stands behind these others.
-    fn account_behind(&self, before: &[Holding], g: Holding) -> Account
-        requires { held before.now < 2 ^ 64 }
-        ensures { result ≡ account_behind self.now before.now g }
-    {
-        let own = if g.pool.same(Name::general()) {
-            g.bytes
-        } else {
-            let left = self.own_of(g.pool).saturating_sub(used(before, g.pool));
-            g.bytes.min(left)
-        };
-        Account {
-            pool: g.pool,
-            own,
-            borrowed: g.bytes - own,
-        }
-    }
-
     /// What the query holds of its pool's own bytes, which go to the pool's queries in their order, and what it has
     /// borrowed. A query that does not run holds nothing.
     pub fn account_of(&self, query: u64) -> Account
         ensures { result ≡ account_of self.now query }
     {
         match self.place_of(query) {
-            Some(place) => {
-                let grants = self.grants.rows();
-                self.account_behind(&grants[..place], grants[place])
-            }
+            Some(place) => self.kept.accounts.rows()[place],
             None => Account {
                 pool: Name::general(),
                 own: 0,
@@ -221,6 +256,13 @@ impl Accounts {
         requires fits { need self.old pool grant ≤ free self.old }
         ensures { self.new ≡ taken self.old query pool grant }
     {
+        let place = self.place_of_reserve(pool);
+        let size = self.size_at(place);
+        let usage = self.kept.usage_at(place);
+        let now = Usage::made(size, usage.used + grant, usage.running + 1);
+        self.kept.set_usage(place, now);
+        let account = account_made(pool, size, usage.used, grant);
+        self.kept.accounts.add(account);
         self.grants.add(Holding {
             query,
             pool,
@@ -234,8 +276,33 @@ impl Accounts {
         ensures grant { result ≡ grant_of self.old.grants query }
     {
         match self.place_of(query) {
-            Some(place) => self.grants.remove(place).bytes,
+            Some(place) => {
+                let g = self.grants.rows()[place];
+                let home = self.place_of_reserve(g.pool);
+                let size = self.size_at(home);
+                let usage = self.kept.usage_at(home);
+                let now = Usage::made(size, usage.used - g.bytes, usage.running - 1);
+                self.kept.set_usage(home, now);
+                self.kept.accounts.remove(place);
+                self.grants.remove(place);
+                recount(&mut self.kept.accounts, self.grants.rows(), g.pool, size);
+                g.bytes
+            }
             None => 0,
+        }
+    }
+
+    /// The usage of the pool with this running query taken out.
+    fn usage_beside(&self, g: Holding, pool: Name) -> Usage
+        requires { find (is_of g.query) self.now.grants ≡ Some g }
+        ensures value { result ≡ usage_made (actual_of self.now pool) (used pool (without (is_of g.query) self.now.grants)) (running_in pool (without (is_of g.query) self.now.grants)) }
+        ensures most { result.used ≤ MEMORY_MOST }
+    {
+        let usage = self.usage(pool);
+        if g.pool.same(pool) {
+            Usage::made(self.actual(pool), usage.used - g.bytes, usage.running - 1)
+        } else {
+            usage
         }
     }
 
@@ -246,20 +313,18 @@ impl Accounts {
         ensures used_most { result.used ≤ MEMORY_MOST }
     {
         let place = self.place_of(query).unwrap();
-        let grants = self.grants.rows();
-        let (before, behind) = (&grants[..place], &grants[place + 1..]);
-        let bytes = grants[place].bytes;
-        let unused = match self.reserve_of(pool) {
-            Some(e) => unused_beside(before, behind, &e),
-            None => 0,
-        };
-        let lent = lent_beside(before, behind, self.reserves.rows());
+        let g = self.grants.rows()[place];
+        let home = self.usage(g.pool).borrowed();
+        let left = self.usage_beside(g, g.pool).borrowed();
+        let returned = home - left;
+        let there = self.usage_beside(g, pool);
+        let unused = self.actual(pool).saturating_sub(there.own);
         IfMoved {
-            need: bytes - bytes.min(unused),
-            free: self.in_force - kept_back(self.reserves.rows()) - lent,
-            used: used_beside(before, behind, pool),
-            lent,
-            running: running_beside(before, behind, pool) as u32,
+            need: g.bytes - g.bytes.min(unused),
+            free: self.kept.free + returned,
+            used: there.used,
+            lent: self.kept.lent - returned,
+            running: there.running,
         }
     }
 
@@ -270,19 +335,10 @@ impl Accounts {
         requires fits { (if_moved self.old query pool).need ≤ (if_moved self.old query pool).free }
         ensures { self.new ≡ moved_to self.old query pool }
     {
-        let place = self.place_of(query).unwrap();
-        let bytes = self.grants.remove(place).bytes;
-        let moved = Holding { query, pool, bytes };
-        self.grants.add(moved);
-    }
-
-    /// Where the pool's reserve stands.
-    fn place_of_reserve(&self, pool: Name) -> Option<usize>
-        ensures value { result ≡ position (is_reserve_of pool) self.now.reserves }
-        ensures within { IfSome result (λ place. place < length self.now.reserves) }
-    {
-        let reserves = self.reserves.rows();
-        reserves.iter().position(|e| e.pool.same(pool))
+        // There is room for the one that leaves its place.
+        let _few = self.grants.len();
+        let bytes = self.give_back(query);
+        self.take(query, pool, bytes);
     }
 
     /// A pool is gone: its bytes go back to GENERAL, and its queries become GENERAL's, in their places and with their grants.
@@ -292,8 +348,19 @@ impl Accounts {
         ensures { self.new ≡ folded self.old pool }
     {
         let place = self.place_of_reserve(pool).unwrap();
+        // The two counts are those of queries that run.
+        let _few = self.count();
+        let size = self.reserves.rows()[place].size;
+        self.kept.fold(place, size);
         self.reserves.remove(place);
         hand_over(&mut self.grants, pool);
+        recount(
+            &mut self.kept.accounts,
+            self.grants.rows(),
+            Name::general(),
+            0,
+        );
+        self.note_places();
     }
 
     /// One pool more, behind the others. It has no bytes of its own until the sizes are shuffled.
@@ -302,11 +369,22 @@ impl Accounts {
         requires room { length self.old.reserves + 1 < POOLS_MOST }
         ensures { self.new ≡ with_pool self.old pool }
     {
+        self.kept.usages.add(Usage::none());
         self.reserves.add(Reserve { pool, size: 0 });
+        self.note_places();
     }
 
-    /// Actual sizes follow the declared ones as far as bytes in use let them, and the memory in force the total.
-    pub fn shuffle(&mut self, definitions: &Definitions)
+    /// Whether each pool has its MEMORYSIZE and the total is in force: then the shuffle changes nothing.
+    fn is_settled(&self, definitions: &Definitions) -> bool
+        requires sound { IsSound definitions.now }
+        requires same_pools { names_in definitions.now ≡ reserve_names self.now.reserves }
+        ensures { result ≡ true → shuffled definitions.now self.now ≡ self.now }
+    {
+        self.in_force == total(definitions) && are_settled(definitions, self.reserves.rows())
+    }
+
+    /// The shuffle where a size or the memory in force may change.
+    fn resize(&mut self, definitions: &Definitions)
         requires sound { IsSound definitions.now }
         requires same_pools { names_in definitions.now ≡ reserve_names self.old.reserves }
         ensures { self.new ≡ shuffled definitions.now self.old }
@@ -318,5 +396,18 @@ impl Accounts {
         self.in_force = total(definitions).max(kept_back + lent);
         let spare = self.in_force - kept_back - lent;
         grow(definitions, grants, &mut self.reserves, spare);
+        self.kept
+            .settle(self.in_force, self.reserves.rows(), grants);
+    }
+
+    /// Actual sizes follow the declared ones as far as bytes in use let them, and the memory in force the total.
+    pub fn shuffle(&mut self, definitions: &Definitions)
+        requires sound { IsSound definitions.now }
+        requires same_pools { names_in definitions.now ≡ reserve_names self.old.reserves }
+        ensures { self.new ≡ shuffled definitions.now self.old }
+    {
+        if !self.is_settled(definitions) {
+            self.resize(definitions);
+        }
     }
 }

@@ -1,5 +1,6 @@
 //! The reserves of the pools, and the shuffle of their sizes.
-ghost use Rattle.std.specs.Prelude.{◌≡◌, ◌<◌, ◌≤◌, ◌+◌, ◌-◌, ◌^◌, length, map, IfOk};
+ghost use Rattle.std.specs.Prelude.{◌≡◌, ◌<◌, ◌≤◌, ◌+◌, ◌-◌, ◌^◌, true, length, map, IfOk};
+ghost use Rattle.std.specs.List.{list_all};
 ghost use Rattle.rm_base.specs.declared.limits.TheConstants.{POOLS_MOST};
 ghost use Rattle.rm_rules.specs.Definitions.{user_pools};
 ghost use Rattle.rm_rules.specs.Sound.{IsSound};
@@ -7,7 +8,7 @@ ghost use Rattle.rm_rules.specs.Holdings.{reserves_of, reserve_names};
 ghost use Rattle.rm_rules.specs.Accounting.{debt};
 ghost use Rattle.rm_rules.specs.Shuffle.{grown_reserves};
 ghost use Rattle.accounts.specs.Accounts.{names_in};
-ghost use Rattle.accounts.specs.Sizes.{held, fallen_to, growth_to, fallen_reserves};
+ghost use Rattle.accounts.specs.Sizes.{held, is_settled, fallen_to, growth_to, fallen_reserves};
 
 use crate::bytes::{debt, own};
 use rm_base::bounded::Bounded;
@@ -44,6 +45,20 @@ pub fn first_reserves(
         });
     }
     Ok(reserves)
+}
+
+/// Whether each pool has its MEMORYSIZE.
+pub fn are_settled(definitions: &Definitions, reserves: &[Reserve]) -> bool
+    requires sound { IsSound definitions.now }
+    requires same_pools { names_in definitions.now ≡ reserve_names reserves.now }
+    ensures { result ≡ true → list_all (is_settled definitions.now) reserves.now ≡ true }
+{
+    for (i, row) in user_pools(definitions.pools.rows()).iter().enumerate() {
+        if reserves[i].size != row.memory {
+            return false;
+        }
+    }
+    true
 }
 
 /// What a pool above its MEMORYSIZE falls to: to it, or to the own bytes that it uses where these are more.

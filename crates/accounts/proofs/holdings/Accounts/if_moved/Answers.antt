@@ -1,17 +1,21 @@
-use Rattle.std.proofs.Common.{rules, ◌≡◌, ◌+◌, ◌-◌, ℕ, min, Option, Some, List, get_or, sum_by, sym, ap, subst, ◌∙◌, arith}
+use Rattle.std.proofs.Common.{rules, ◌≡◌, ◌+◌, ◌-◌, ℕ, Option, Some, find, refl, sym, ap, subst, ◌∙◌, arith}
 use Rattle.std.specs.List.{position_or_len}
 use Rattle.std.specs.Option.{IsSome}
-use Rattle.rm_base.specs.Name.{general}
-use Rattle.rm_rules.specs.declared.state.Holding.{Holding}
-use Rattle.rm_rules.specs.declared.state.Reserve.{Reserve}
+use Rattle.rm_base.specs.declared.name.Name.{Name}
 use Rattle.rm_rules.specs.Holdings.{Holdings}
-use Rattle.rm_rules.specs.Accounting.{used, running_in, debt, unused, of_reserve, unused_of, kept_back, lent}
+use Rattle.rm_rules.specs.State.{without}
+use Rattle.rm_rules.specs.Accounting.{used, running_in, actual_of, lent, free, need}
+use Rattle.rm_rules.proofs.Places.{find-found}
+use Rattle.rm_rules.proofs.Taken.{found_passes}
+use Rattle.accounts.specs.declared.numbers.Numbers.{Numbers}
+use Rattle.accounts.specs.declared.numbers.Usage.{Usage}
 use Rattle.accounts.specs.Accounts.{is_of, grant_of, given_back}
-use Rattle.accounts.specs.Kept.{IsBalanced}
-use Rattle.accounts.proofs.Moving.{position-present, rest_of, rest-left, rest-held, rest-up}
+use Rattle.accounts.specs.Kept.{IsBalanced, seen_holdings}
+use Rattle.accounts.specs.Numbers.{usage_made, borrowed}
+use Rattle.accounts.proofs.Keeping.{kept_given_back, same-number}
+use Rattle.accounts.proofs.Moving.{position-present}
 use Rattle.accounts.proofs.Seen.{grant-found}
-use Rattle.accounts.proofs.Sums.{used_held}
-use Rattle.accounts.proofs.holdings.Accounts.if_moved.Goals.{in-Some, in-None}
+use Rattle.accounts.proofs.Usages.{kept-seen, grant-here, query-found, lent-given, unused-is}
 use Rattle.accounts.proofs.holdings.Accounts.if_moved.Goals as goal
 
 pub unwrap-place-requires : goal.unwrap-place-requires
@@ -21,102 +25,98 @@ unwrap-place-requires c =
     let P : Option ℕ → Type 0 = λ o. IsSome o in
     subst P (sym at) (search rules)
 
-pub unused_beside-unused-requires : goal.unused_beside-unused-requires
-unused_beside-unused-requires c =
+pub usage_beside-requires : goal.usage_beside-requires
+usage_beside-requires c =
     let a = c.args.self.now in
-    let gs = c.rows-grants.result.now in
+    let query = c.args.query in
+    let gs = a.grants in
+    let g = c.index-rows-place.result in
     let found = sym c.place_of.ensures.value ∙ c.unwrap-place.ensures in
-    let items = c.rows-grants.ensures.rows ∙ ap (λ (h : Holdings). h.grants) c.self.view_is in
-    let rest = rest-left a gs c.args.query c.unwrap-place.result items found in
-    omega (arith, rest-held a c.args.query (rest_of gs c.unwrap-place.result) (subst IsBalanced c.self.view_is c.self.invariant) rest)
+    let at = grant-here (seen_holdings c.self.inside) a c.rows.result.now c.unwrap-place.result g c.self.view_is c.rows.ensures.rows c.index-rows-place.is in
+    let some : find (is_of query) gs ≡ Some g = find-found (is_of query) gs c.unwrap-place.result g found at in
+    query-found gs query g some
 
-pub lent_beside-lent-requires-clause-granted : goal.lent_beside-lent-requires-clause-granted
-lent_beside-lent-requires-clause-granted c =
+pub usage_beside-there-requires : goal.usage_beside-there-requires
+usage_beside-there-requires c =
     let a = c.args.self.now in
-    let gs = c.rows-grants.result.now in
+    let query = c.args.query in
+    let gs = a.grants in
+    let g = c.index-rows-place.result in
     let found = sym c.place_of.ensures.value ∙ c.unwrap-place.ensures in
-    let items = c.rows-grants.ensures.rows ∙ ap (λ (h : Holdings). h.grants) c.self.view_is in
-    let rest = rest-left a gs c.args.query c.unwrap-place.result items found in
-    omega (arith, rest-held a c.args.query (rest_of gs c.unwrap-place.result) (subst IsBalanced c.self.view_is c.self.invariant) rest)
+    let at = grant-here (seen_holdings c.self.inside) a c.rows.result.now c.unwrap-place.result g c.self.view_is c.rows.ensures.rows c.index-rows-place.is in
+    let some : find (is_of query) gs ≡ Some g = find-found (is_of query) gs c.unwrap-place.result g found at in
+    query-found gs query g some
 
-pub lent_beside-lent-requires-clause-fits : goal.lent_beside-lent-requires-clause-fits
-lent_beside-lent-requires-clause-fits c =
+pub overflow_sub-returned : goal.overflow_sub-returned
+overflow_sub-returned c =
     let a = c.args.self.now in
-    let gs = c.rows-grants.result.now in
+    let query = c.args.query in
+    let gs = a.grants in
+    let g = c.index-rows-place.result in
     let found = sym c.place_of.ensures.value ∙ c.unwrap-place.ensures in
-    let items = c.rows-grants.ensures.rows ∙ ap (λ (h : Holdings). h.grants) c.self.view_is in
-    let rest = rest-left a gs c.args.query c.unwrap-place.result items found in
-    let balanced = subst IsBalanced c.self.view_is c.self.invariant in
-    let reserves = c.rows.ensures.rows ∙ ap (λ (h : Holdings). h.reserves) c.self.view_is in
-    omega (
-      arith,
-      rest-up a c.args.query (rest_of gs c.unwrap-place.result) balanced rest,
-      balanced.in_force_most,
-      ap (λ (es : List Reserve). sum_by (debt (rest_of gs c.unwrap-place.result)) es) reserves,
-    )
+    let at = grant-here (seen_holdings c.self.inside) a c.rows.result.now c.unwrap-place.result g c.self.view_is c.rows.ensures.rows c.index-rows-place.is in
+    let some : find (is_of query) gs ≡ Some g = find-found (is_of query) gs c.unwrap-place.result g found at in
+    let k = subst IsBalanced c.self.view_is c.self.invariant.balanced in
+    let kept = kept-seen c.self.inside.kept (seen_holdings c.self.inside) a c.self.invariant.numbers c.self.view_is in
+    let number : g.query ≡ query = same-number g.query query (found_passes (is_of query) g gs some) in
+    let beside : Name → ℕ → Usage = λ p n. usage_made (actual_of a p) (used p (without (is_of n) gs)) (running_in p (without (is_of n) gs)) in
+    let home : c.borrowed-home.result ≡ borrowed (usage_made (actual_of a g.pool) (used g.pool gs) (running_in g.pool gs)) =
+    c.borrowed-home.ensures.value ∙ ap borrowed c.usage.ensures.value in
+    let left : c.borrowed-left.result ≡ borrowed (beside g.pool query) =
+    c.borrowed-left.ensures.value ∙ ap borrowed (c.usage_beside.ensures.value ∙ ap (beside g.pool) number) in
+    let l = lent-given a query g k some in
+    omega (arith, home, left, l.less)
 
-pub overflow_sub-result-3 : goal.overflow_sub-result-3
-overflow_sub-result-3 c =
+pub overflow_sub-result-2 : goal.overflow_sub-result-2
+overflow_sub-result-2 c =
     let a = c.args.self.now in
-    let gs = c.rows-grants.result.now in
+    let query = c.args.query in
+    let gs = a.grants in
+    let g = c.index-rows-place.result in
     let found = sym c.place_of.ensures.value ∙ c.unwrap-place.ensures in
-    let items = c.rows-grants.ensures.rows ∙ ap (λ (h : Holdings). h.grants) c.self.view_is in
-    let rest = rest-left a gs c.args.query c.unwrap-place.result items found in
-    let balanced = subst IsBalanced c.self.view_is c.self.invariant in
-    let view = ap (λ (h : Holdings). h.reserves) c.self.view_is in
-    omega (
-      arith,
-      rest-up a c.args.query (rest_of gs c.unwrap-place.result) balanced rest,
-      c.lent_beside-lent.ensures,
-      ap (λ (es : List Reserve). sum_by (debt (rest_of gs c.unwrap-place.result)) es) (c.rows.ensures.rows ∙ view),
-      c.kept_back.ensures,
-      ap (λ (es : List Reserve). kept_back es) (c.rows-2.ensures.rows ∙ view),
-      ap (λ (h : Holdings). h.in_force) c.self.view_is,
-    )
+    let at = grant-here (seen_holdings c.self.inside) a c.rows.result.now c.unwrap-place.result g c.self.view_is c.rows.ensures.rows c.index-rows-place.is in
+    let some : find (is_of query) gs ≡ Some g = find-found (is_of query) gs c.unwrap-place.result g found at in
+    let k = subst IsBalanced c.self.view_is c.self.invariant.balanced in
+    let kept = kept-seen c.self.inside.kept (seen_holdings c.self.inside) a c.self.invariant.numbers c.self.view_is in
+    let number : g.query ≡ query = same-number g.query query (found_passes (is_of query) g gs some) in
+    let beside : Name → ℕ → Usage = λ p n. usage_made (actual_of a p) (used p (without (is_of n) gs)) (running_in p (without (is_of n) gs)) in
+    let home : c.borrowed-home.result ≡ borrowed (usage_made (actual_of a g.pool) (used g.pool gs) (running_in g.pool gs)) =
+    c.borrowed-home.ensures.value ∙ ap borrowed c.usage.ensures.value in
+    let left : c.borrowed-left.result ≡ borrowed (beside g.pool query) =
+    c.borrowed-left.ensures.value ∙ ap borrowed (c.usage_beside.ensures.value ∙ ap (beside g.pool) number) in
+    let l = lent-given a query g k some in
+    omega (arith, home, left, l.lends, ap (λ (n : Numbers). n.lent) kept)
 
-pub used_beside-requires : goal.used_beside-requires
-used_beside-requires c =
+pub returns-clause-value : goal.returns-clause-value
+returns-clause-value c =
     let a = c.args.self.now in
-    let gs = c.rows-grants.result.now in
+    let query = c.args.query in
+    let gs = a.grants in
+    let g = c.index-rows-place.result in
     let found = sym c.place_of.ensures.value ∙ c.unwrap-place.ensures in
-    let items = c.rows-grants.ensures.rows ∙ ap (λ (h : Holdings). h.grants) c.self.view_is in
-    let rest = rest-left a gs c.args.query c.unwrap-place.result items found in
-    omega (arith, rest-held a c.args.query (rest_of gs c.unwrap-place.result) (subst IsBalanced c.self.view_is c.self.invariant) rest)
-
-pub returns : goal.returns
-returns c =
-    let a = c.args.self.now in
+    let at = grant-here (seen_holdings c.self.inside) a c.rows.result.now c.unwrap-place.result g c.self.view_is c.rows.ensures.rows c.index-rows-place.is in
+    let some : find (is_of query) gs ≡ Some g = find-found (is_of query) gs c.unwrap-place.result g found at in
+    let k = subst IsBalanced c.self.view_is c.self.invariant.balanced in
+    let kept = kept-seen c.self.inside.kept (seen_holdings c.self.inside) a c.self.invariant.numbers c.self.view_is in
+    let number : g.query ≡ query = same-number g.query query (found_passes (is_of query) g gs some) in
+    let beside : Name → ℕ → Usage = λ p n. usage_made (actual_of a p) (used p (without (is_of n) gs)) (running_in p (without (is_of n) gs)) in
+    let home : c.borrowed-home.result ≡ borrowed (usage_made (actual_of a g.pool) (used g.pool gs) (running_in g.pool gs)) =
+    c.borrowed-home.ensures.value ∙ ap borrowed c.usage.ensures.value in
+    let left : c.borrowed-left.result ≡ borrowed (beside g.pool query) =
+    c.borrowed-left.ensures.value ∙ ap borrowed (c.usage_beside.ensures.value ∙ ap (beside g.pool) number) in
+    let l = lent-given a query g k some in
     let pool = c.args.pool in
-    let gs = c.rows-grants.result.now in
-    let place = c.unwrap-place.result in
-    let g = c.index-grants-place.result in
-    let now : Holdings = given_back a c.args.query in
-    let found = sym c.place_of.ensures.value ∙ c.unwrap-place.ensures in
-    let items = c.rows-grants.ensures.rows ∙ ap (λ (h : Holdings). h.grants) c.self.view_is in
-    let view = ap (λ (h : Holdings). h.reserves) c.self.view_is in
-    let rest : rest_of gs place ≡ now.grants = rest-left a gs c.args.query place items found in
-    let bytes : (get_or gs place g).bytes ≡ grant_of a.grants c.args.query =
-    ap (λ (x : Holding). x.bytes) (sym c.index-grants-place.is) ∙ grant-found a gs c.args.query place g items found c.index-grants-place.is in
-    let unneeded : c.match-reserve_of.unused ≡ unused_of now pool = elim c.match-reserve_of.branch [
-      | in-Some w ↦ w.unused-is
-          ∙ w.unused_beside-unused.ensures
-          ∙ ap (λ (l : List Holding). unused l w.in-Some.e) rest
-          ∙ ap (λ (o : Option Reserve). of_reserve (unused now.grants) o) w.in-Some.ensures
-      | in-None w ↦ w.unused-is ∙ ap (λ (o : Option Reserve). of_reserve (unused now.grants) o) w.in-None.ensures
-    ] in
-    let least : c.min.result ≡ min (grant_of a.grants c.args.query) (unused_of now pool) = c.min.ensures ∙ (λ j. min (bytes j) (unneeded j)) in
-    let reserves = c.rows.ensures.rows ∙ view in
-    let lends : c.lent_beside-lent.result ≡ lent now = c.lent_beside-lent.ensures ∙ (λ j. used general (rest j) + sum_by (debt (rest j)) (reserves j)) in
-    let kept : c.kept_back.result ≡ kept_back a.reserves = c.kept_back.ensures ∙ ap (λ (es : List Reserve). kept_back es) (c.rows-2.ensures.rows ∙ view) in
-    let force = ap (λ (h : Holdings). h.in_force) c.self.view_is in
-    let uses : c.used_beside.result ≡ used pool now.grants = c.used_beside.ensures ∙ ap (λ (l : List Holding). used pool l) rest in
-    let runs : c.running_beside.result ≡ running_in pool now.grants = c.running_beside.ensures ∙ ap (λ (l : List Holding). running_in pool l) rest in
-    record {
-      value = λ j. record { need = bytes j - least j; free = (force j - kept j) - lends j; used = uses j; lent = lends j; running = runs j };
-      used_most = omega (
-        arith,
-        c.used_beside.ensures,
-        used_held pool (rest_of gs place),
-        rest-held a c.args.query (rest_of gs place) (subst IsBalanced c.self.view_is c.self.invariant) rest,
-      );
-    }
+    let now : Holdings = given_back a query in
+    let then = kept_given_back a query k in
+    let there : c.usage_beside-there.result ≡ beside pool query = c.usage_beside-there.ensures.value ∙ ap (beside pool) number in
+    let bytes : g.bytes ≡ grant_of gs query = grant-found a gs query c.unwrap-place.result g refl found at in
+    let needs : g.bytes - c.min.result ≡ need now pool g.bytes =
+    omega (arith, c.min.ensures, c.saturating_sub-unused.ensures, c.actual.ensures, ap (λ (u : Usage). u.own) there, unused-is now pool) in
+    let needed : g.bytes - c.min.result ≡ need now pool (grant_of gs query) = needs ∙ ap (λ (n : ℕ). need now pool n) bytes in
+    let lends : c.self.inside.kept.lent - (c.borrowed-home.result - c.borrowed-left.result) ≡ lent now =
+    omega (arith, home, left, l.lent_less, l.less, l.lends, ap (λ (n : Numbers). n.lent) kept) in
+    let frees : c.self.inside.kept.free + (c.borrowed-home.result - c.borrowed-left.result) ≡ free now =
+    omega (arith, home, left, l.lent_less, l.less, l.lends, k.within, then.within, ap (λ (n : Numbers). n.free) kept) in
+    let use_there = ap (λ (u : Usage). u.used) there in
+    let run_there = ap (λ (u : Usage). u.running) there in
+    λ j. record { need = needed j; free = frees j; used = use_there j; lent = lends j; running = run_there j }
