@@ -79,36 +79,36 @@ user-count : (pools : List PoolRow) → begins_with_general pools ≡ true → l
 user-count [] begins = absurd (false≢true begins)
 user-count (r ∷ rs) begins = omega arith
 
-pub reserves-count : (m : Inside) → IsSound m.definitions → AreSized m.definitions (seen_state m).actual m.counters → length m.accounts.reserves + 1 ≡ length m.definitions.pools
-reserves-count m sound sized = omega (arith, sized.sizes, sizes-count m.accounts.reserves, user-count m.definitions.pools sound.general_first)
+pub reserves-count : (m : Inside) → IsSound m.definitions → AreSized m.definitions (seen_state m).actual m.counters → length m.runs.accounts.reserves + 1 ≡ length m.definitions.pools
+reserves-count m sound sized = omega (arith, sized.sizes, sizes-count m.runs.accounts.reserves, user-count m.definitions.pools sound.general_first)
 
 -- the bytes under the new definitions
 pub bytes-added : (m : Inside) (new : Definitions) (row : PoolRow) (a : Holdings) → IsTied m → AreSized m.definitions (seen_state m).actual m.counters → IsAdded m.definitions new row
-    → a ≡ with_reserve m.accounts row.name → bytes_under new a m.running ≡ a
+    → a ≡ with_reserve m.runs.accounts row.name → bytes_under new a m.runs.running ≡ a
 bytes-added m new row a h sized adds is =
     let e : Reserve = record { pool = row.name; size = 0 } in
-    let sizes = map_push (λ (x : Reserve). x.size) m.accounts.reserves e in
-    subst (λ (b : Holdings). bytes_under new b m.running ≡ b) (sym is)
+    let sizes = map_push (λ (x : Reserve). x.size) m.runs.accounts.reserves e in
+    subst (λ (b : Holdings). bytes_under new b m.runs.running ≡ b) (sym is)
     (ap (λ (ns : List ℕ). let s : State = record (seen_state m) { definitions = new; actual = ns } in holdings_of s) sizes
     ∙ added-stand (seen_state m) new row.name sized adds.names
     ∙ ap (λ (b : Holdings). with_reserve b row.name) h.bytes)
 
-pub bytes-altered : (m : Inside) (new : Definitions) → IsTied m → AreSized m.definitions (seen_state m).actual m.counters → IsAltered m.definitions new → bytes_under new m.accounts m.running ≡ m.accounts
+pub bytes-altered : (m : Inside) (new : Definitions) → IsTied m → AreSized m.definitions (seen_state m).actual m.counters → IsAltered m.definitions new → bytes_under new m.runs.accounts m.runs.running ≡ m.runs.accounts
 bytes-altered m new h sized alters = kept-stand (seen_state m) new sized alters.names ∙ h.bytes
 
 -- the state with the new definitions
-seen-added : (m : Inside) (new : Definitions) (row : PoolRow) (b : Holdings) (counters : List EndCounts) → IsAdded m.definitions new row → b ≡ with_reserve m.accounts row.name
-    → counters ≡ m.counters ++ none_ended ∷ [] → seen_state (record m { definitions = new; accounts = b; counters = counters }) ≡ defined (seen_state m) new
+seen-added : (m : Inside) (new : Definitions) (row : PoolRow) (b : Holdings) (counters : List EndCounts) → IsAdded m.definitions new row → b ≡ with_reserve m.runs.accounts row.name
+    → counters ≡ m.counters ++ none_ended ∷ [] → seen_state (record m { definitions = new; runs = record { accounts = b; running = m.runs.running }; counters = counters }) ≡ defined (seen_state m) new
 seen-added m new row b counters h is more =
-    let sizes = map_push (λ (x : Reserve). x.size) m.accounts.reserves (record { pool = row.name; size = 0 }) ∙ sym (place-more m.definitions new 0 (seen_state m).actual h.count) in
+    let sizes = map_push (λ (x : Reserve). x.size) m.runs.accounts.reserves (record { pool = row.name; size = 0 }) ∙ sym (place-more m.definitions new 0 (seen_state m).actual h.count) in
     ap (λ (x : Holdings). let t : State = record (seen_state m) { definitions = new; in_force = x.in_force; actual = map (λ (e : Reserve). e.size) x.reserves; counters = counters } in t) is
     ∙ ap (λ (ns : List ℕ). let t : State = record (seen_state m) { definitions = new; actual = ns; counters = counters } in t) sizes
     ∙ ap (λ (cs : List EndCounts). let t : State = record (seen_state m) { definitions = new; actual = with_place m.definitions new 0 (seen_state m).actual; counters = cs } in t)
     (more ∙ sym (place-more m.definitions new none_ended m.counters h.count))
 
 pub state-added : (m : Inside) (s : State) (new : Definitions) (row : PoolRow) (b : Holdings) (counters : List EndCounts) → seen_state m ≡ s → IsAdded m.definitions new row
-    → b ≡ with_reserve m.accounts row.name → counters ≡ m.counters ++ none_ended ∷ []
-    → seen_state (record m { definitions = new; accounts = b; counters = counters }) ≡ defined s new
+    → b ≡ with_reserve m.runs.accounts row.name → counters ≡ m.counters ++ none_ended ∷ []
+    → seen_state (record m { definitions = new; runs = record { accounts = b; running = m.runs.running }; counters = counters }) ≡ defined s new
 state-added m s new row b counters same h is more =
     seen-added m new row b counters h is more ∙ ap (λ (t : State). defined t new) same
 

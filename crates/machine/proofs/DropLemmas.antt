@@ -91,34 +91,34 @@ drop-is d pool new is =
 
 -- the sizes of the reserves that are left are those without the pool's
 sizes-dropped : (m : Inside) (pool : Name) → IsTied m → IsSound m.definitions → AreSized m.definitions (seen_state m).actual m.counters
-    → map (λ (e : Reserve). e.size) (without (is_reserve_of pool) m.accounts.reserves) ≡ without_place (user_pools m.definitions.pools) pool (seen_state m).actual
+    → map (λ (e : Reserve). e.size) (without (is_reserve_of pool) m.runs.accounts.reserves) ≡ without_place (user_pools m.definitions.pools) pool (seen_state m).actual
 sizes-dropped m pool h sound sized =
     let rows = user_pools m.definitions.pools in
     let ns = (seen_state m).actual in
     let distinct : are_distinct (names rows) ≡ true =
     apart-rest general (names rows) (subst (λ l. are_distinct l ≡ true) (pool_names m.definitions.pools sound.general_first) sound.pools_distinct) in
-    let kept : reserves_of (without_row (λ r. r.name) pool rows) (without_place rows pool ns) ≡ without (is_reserve_of pool) m.accounts.reserves =
+    let kept : reserves_of (without_row (λ r. r.name) pool rows) (without_place rows pool ns) ≡ without (is_reserve_of pool) m.runs.accounts.reserves =
     reserves-placed rows pool ns sized.sizes distinct ∙ ap (λ (a : Holdings). without (is_reserve_of pool) a.reserves) h.bytes in
     ap (λ es. map (λ (e : Reserve). e.size) es) (sym kept) ∙ sizes-of (without_row (λ r. r.name) pool rows) (without_place rows pool ns) (length-placed rows pool ns sized.sizes distinct)
 
 -- what a machine is then
 pub record HasDropped (m : Inside) (pool : Name) (new : Definitions) (a : Holdings) (sessions : List Session) (running : List Runner) (waiting : List Waiter) (counters : List EndCounts) : Type 0 where
-  pub accounts : a ≡ folded m.accounts pool
+  pub accounts : a ≡ folded m.runs.accounts pool
   pub sessions_are : sessions ≡ map (session_beside pool) m.sessions
-  pub running_are : running ≡ map (runner_beside pool) m.running
+  pub running_are : running ≡ map (runner_beside pool) m.runs.running
   pub waiting_are : waiting ≡ transferred m.waiting pool (goes_before m.definitions pool)
   pub counters_are : counters ≡ without_place m.definitions.pools pool m.counters
 
 seen-dropped : (m : Inside) (pool : Name) (new : Definitions) (a : Holdings) (sessions : List Session) (running : List Runner) (waiting : List Waiter) (counters : List EndCounts)
     → HasDropped m pool new a sessions running waiting counters → IsTied m → IsSound m.definitions → AreSized m.definitions (seen_state m).actual m.counters
-    → seen_state (record m { definitions = new; accounts = a; sessions = sessions; running = running; waiting = waiting; counters = counters }) ≡ dropped (seen_state m) pool new
+    → seen_state (record m { definitions = new; runs = record { accounts = a; running = running }; sessions = sessions; waiting = waiting; counters = counters }) ≡ dropped (seen_state m) pool new
 seen-dropped m pool new a sessions running waiting counters h tied sound sized =
     let t = λ (f : ℕ) (ns : List ℕ) (xs : List Session) (rs : List Runner) (ws : List Waiter) (cs : List EndCounts).
     let u : State = record (seen_state m) { definitions = new; in_force = f; actual = ns; sessions = xs; running = rs; waiting = ws; counters = cs } in u in
-    let f = m.accounts.in_force in
+    let f = m.runs.accounts.in_force in
     let ns = without_place (user_pools m.definitions.pools) pool (seen_state m).actual in
     let xs = map (session_beside pool) m.sessions in
-    let rs = map (runner_beside pool) m.running in
+    let rs = map (runner_beside pool) m.runs.running in
     let ws = transferred m.waiting pool (goes_before m.definitions pool) in
     ap (λ (x : Holdings). t x.in_force (map (λ (e : Reserve). e.size) x.reserves) sessions running waiting counters) h.accounts
     ∙ ap (λ (l : List ℕ). t f l sessions running waiting counters) (sizes-dropped m pool tied sound sized)
@@ -129,14 +129,14 @@ seen-dropped m pool new a sessions running waiting counters h tied sound sized =
 
 pub state-dropped : (m : Inside) (s : State) (pool : Name) (new : Definitions) (a : Holdings) (sessions : List Session) (running : List Runner) (waiting : List Waiter) (counters : List EndCounts)
     → seen_state m ≡ s → HasDropped m pool new a sessions running waiting counters → IsTied m → IsSound m.definitions → AreSized m.definitions (seen_state m).actual m.counters
-    → seen_state (record m { definitions = new; accounts = a; sessions = sessions; running = running; waiting = waiting; counters = counters }) ≡ dropped s pool new
+    → seen_state (record m { definitions = new; runs = record { accounts = a; running = running }; sessions = sessions; waiting = waiting; counters = counters }) ≡ dropped s pool new
 state-dropped m s pool new a sessions running waiting counters same h tied sound sized =
     seen-dropped m pool new a sessions running waiting counters h tied sound sized ∙ ap (λ (u : State). dropped u pool new) same
 
 -- its accounts are still the bytes of the state
 pub tied-dropped : (m : Inside) (pool : Name) (new : Definitions) (a : Holdings) (sessions : List Session) (running : List Runner) (waiting : List Waiter) (counters : List EndCounts)
     → HasDropped m pool new a sessions running waiting counters → LeavesOthers m.definitions pool new → IsTied m → IsSound m.definitions → AreSized m.definitions (seen_state m).actual m.counters
-    → holdings_of (seen_state (record m { definitions = new; accounts = a; sessions = sessions; running = running; waiting = waiting; counters = counters })) ≡ a
+    → holdings_of (seen_state (record m { definitions = new; runs = record { accounts = a; running = running }; sessions = sessions; waiting = waiting; counters = counters })) ≡ a
 tied-dropped m pool new a sessions running waiting counters h drops tied sound sized =
     ap holdings_of (seen-dropped m pool new a sessions running waiting counters h tied sound sized)
     ∙ bytes-dropped (seen_state m) pool new drops.left sound sized (same_name-sym general pool ∙ drops.user)

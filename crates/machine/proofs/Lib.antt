@@ -12,4 +12,6 @@ pub mod Settling
 pub mod Entering
 pub mod Looking
 pub mod Keeping
+pub mod Rising
+pub mod Beside
 pub mod DropLemmas

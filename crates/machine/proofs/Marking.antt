@@ -1,5 +1,5 @@
 -- The last moves, and a running query that runs on with other marks.
-use Rattle.std.proofs.Common.{◌≡◌, ◌≤◌, ◌<◌, ℕ, ◌-◌, Bool, true, false, cond, eqb, List, [], ◌∷◌, ◌++◌, Some, None, length, drop, remove, refl, sym, ap, ◌∙◌, arith}
+use Rattle.std.proofs.Common.{◌≡◌, ◌≤◌, ◌<◌, ℕ, ◌-◌, Bool, true, false, cond, eqb, List, [], ◌∷◌, ◌++◌, Some, None, length, drop, remove, refl, sym, ap, ◌∙◌, subst, arith}
 use Rattle.std.specs.List.{find}
 use Rattle.std.proofs.lemmas.Bool.{eqb-true, false≢true}
 use Rattle.std.proofs.lemmas.Bool.Decides.{nat_tests}
@@ -63,14 +63,17 @@ held-set : (test : Runner → Bool) (y now : Runner) (xs : List Runner) → find
 held-set test y now [] found same = refl
 held-set test y now (x ∷ xs) found same = held-turn x y now test xs (test x) found same (λ more. held-set test y now xs more same)
 
-pub bytes-marked : (m : Inside) (session : ℕ) (r now : Runner) (running : List Runner) → IsTied m → runner_of m.running session ≡ Some r → holding now ≡ holding r
-    → running ≡ with_runner_as (λ _. now) session m.running → bytes_under m.definitions m.accounts running ≡ m.accounts
+pub bytes-marked : (m : Inside) (session : ℕ) (r now : Runner) (running : List Runner) → IsTied m → runner_of m.runs.running session ≡ Some r → holding now ≡ holding r
+    → running ≡ with_runner_as (λ _. now) session m.runs.running → bytes_under m.definitions m.runs.accounts running ≡ m.runs.accounts
 bytes-marked m session r now running h found same is =
-    let held : holdings running ≡ holdings m.running = ap holdings is ∙ held-set (λ (x : Runner). eqb x.session session) r now m.running found same in
-    ap (λ (gs : List Holding). let b : Holdings = record (bytes_under m.definitions m.accounts m.running) { grants = gs } in b) held ∙ h.bytes
+    let held : holdings running ≡ holdings m.runs.running = ap holdings is ∙ held-set (λ (x : Runner). eqb x.session session) r now m.runs.running found same in
+    ap (λ (gs : List Holding). let b : Holdings = record (bytes_under m.definitions m.runs.accounts m.runs.running) { grants = gs } in b) held ∙ h.bytes
 
-pub state-marked : (m : Inside) (s : State) (act : Runner → Runner) (session : ℕ) (r now : Runner) (running : List Runner) → seen_state m ≡ s → runner_of m.running session ≡ Some r → now ≡ act r
-    → running ≡ with_runner_as (λ _. now) session m.running → seen_state (record m { running = running }) ≡ record s { running = with_runner_as act session s.running }
+pub marked-accounts : (m : Inside) (a : Holdings) (running : List Runner) → a ≡ m.runs.accounts → bytes_under m.definitions m.runs.accounts running ≡ m.runs.accounts → bytes_under m.definitions a running ≡ a
+marked-accounts m a running same h = subst (λ (b : Holdings). bytes_under m.definitions b running ≡ b) (sym same) h
+
+pub state-marked : (m : Inside) (s : State) (act : Runner → Runner) (session : ℕ) (r now : Runner) (running : List Runner) → seen_state m ≡ s → runner_of m.runs.running session ≡ Some r → now ≡ act r
+    → running ≡ with_runner_as (λ _. now) session m.runs.running → seen_state (record m { runs = record { accounts = m.runs.accounts; running = running } }) ≡ record s { running = with_runner_as act session s.running }
 state-marked m s act session r now running same found changed is =
     ap (λ (l : List Runner). let t : State = record (seen_state m) { running = l } in t) (runs-on-as (seen_state m) act session r now running found changed is)
     ∙ ap (λ (t : State). let u : State = record t { running = with_runner_as act session t.running } in u) same

@@ -35,7 +35,7 @@ use Rattle.machine.proofs.Running.{once-running, found-behind}
 use Rattle.machine.proofs.Submitting.{none-any}
 
 -- the session's running query, in what is seen of the machine
-pub runs-inside : (m : Inside) (s : State) (session : ℕ) (r : Runner) → seen_state m ≡ s → runner_of s.running session ≡ Some r → runner_of m.running session ≡ Some r
+pub runs-inside : (m : Inside) (s : State) (session : ℕ) (r : Runner) → seen_state m ≡ s → runner_of s.running session ≡ Some r → runner_of m.runs.running session ≡ Some r
 runs-inside m s session r same found = ap (λ (t : State). runner_of t.running session) same ∙ found
 
 -- when it began, and how long it had run by then
@@ -73,11 +73,11 @@ any-turn p q x y xs true found passes rest =
     ap (λ (c : Bool). c || list_any q xs) (ap q (sym same) ∙ passes)
 any-turn p q x y xs false found passes rest = elim (q x) as (λ c. (c || list_any q xs) ≡ true) [ true ↦ refl | false ↦ rest found ]
 
-any-found : (p q : Runner → Bool) (y : Runner) (xs : List Runner) → find p xs ≡ Some y → q y ≡ true → list_any q xs ≡ true
+pub any-found : (p q : Runner → Bool) (y : Runner) (xs : List Runner) → find p xs ≡ Some y → q y ≡ true → list_any q xs ≡ true
 any-found p q y [] found passes = let none : None ≡ Some y = found in absurd (cc)
 any-found p q y (x ∷ xs) found passes = any-turn p q x y xs (p x) found passes (λ more. any-found p q y xs more passes)
 
-pub known-inside : (m : Inside) (s : State) (session : ℕ) (r : Runner) → seen_state m ≡ s → IsTied m → runner_of s.running session ≡ Some r → has_query m.accounts.grants r.query ≡ true
+pub known-inside : (m : Inside) (s : State) (session : ℕ) (r : Runner) → seen_state m ≡ s → IsTied m → runner_of s.running session ≡ Some r → has_query m.runs.accounts.grants r.query ≡ true
 known-inside m s session r same h found =
     ap (λ (b : Holdings). has_query b.grants r.query) (bytes_inside m s same h)
     ∙ queries-stand s.running r.query
@@ -102,7 +102,7 @@ numbers-without s session r pool numbered found =
     ∙ ap (λ (n : ℕ). seen_from (holdings_without s session) pool n) (grant-held s session r numbered found)
 
 pub takes-inside : (m : Inside) (s : State) (r : Runner) (pool : Name) (seen : IfMoved) → seen_state m ≡ s → IsTied m → AreNumbered s.last_query s.waiting s.running
-    → runner_of s.running r.session ≡ Some r → seen ≡ if_moved m.accounts r.query pool → takes_grant m.definitions seen pool r.grant ≡ takes s r pool
+    → runner_of s.running r.session ≡ Some r → seen ≡ if_moved m.runs.accounts r.query pool → takes_grant m.definitions seen pool r.grant ≡ takes s r pool
 takes-inside m s r pool seen same h numbered found is =
     ap (λ (n : IfMoved). takes_grant m.definitions n pool r.grant)
     (is ∙ ap (λ (b : Holdings). if_moved b r.query pool) (bytes_inside m s same h) ∙ numbers-without s r.session r pool numbered found)
@@ -113,7 +113,7 @@ enough-turn : (p q : Bool) (n l t f : ℕ) → ((p && (eqb n 0 || (leb l t && le
 enough-turn p q n l t f h = grind (arith, nat_tests)
 
 pub taken-fits : (m : Inside) (s : State) (r : Runner) (pool : Name) → seen_state m ≡ s → IsTied m → AreNumbered s.last_query s.waiting s.running → runner_of s.running r.session ≡ Some r
-    → takes s r pool ≡ true → (if_moved m.accounts r.query pool).need ≤ (if_moved m.accounts r.query pool).free
+    → takes s r pool ≡ true → (if_moved m.runs.accounts r.query pool).need ≤ (if_moved m.runs.accounts r.query pool).free
 taken-fits m s r pool same h numbered found taken =
     let b = holdings_without s r.session in
     let d = s.definitions in
@@ -123,8 +123,8 @@ taken-fits m s r pool same h numbered found taken =
 
 -- the bytes of a query that went on elsewhere
 pub bytes-moved : (m : Inside) (s : State) (r now : Runner) (pool : Name) (a : Holdings) (left running : List Runner) → seen_state m ≡ s → IsTied m → AreNumbered s.last_query s.waiting s.running
-    → runner_of s.running r.session ≡ Some r → holding now ≡ record { query = r.query; pool = pool; bytes = r.grant } → a ≡ moved_to m.accounts r.query pool
-    → left ≡ without_runner r.session m.running → running ≡ left ++ now ∷ [] → bytes_under m.definitions a running ≡ a
+    → runner_of s.running r.session ≡ Some r → holding now ≡ record { query = r.query; pool = pool; bytes = r.grant } → a ≡ moved_to m.runs.accounts r.query pool
+    → left ≡ without_runner r.session m.runs.running → running ≡ left ++ now ∷ [] → bytes_under m.definitions a running ≡ a
 bytes-moved m s r now pool a left running same h numbered found holds is out more =
     let t = seen_state m in
     let u : State = record t { running = without_runner r.session t.running } in
@@ -132,12 +132,12 @@ bytes-moved m s r now pool a left running same h numbered found holds is out mor
     let here = runs-inside m s r.session r same found in
     let row : Holding → Holdings = λ (g : Holding). taken (holdings_of u) g.query g.pool g.bytes in
     let last : holdings_of (record u { running = u.running ++ now ∷ [] }) ≡ taken (holdings_of u) r.query pool r.grant = taken-stands u now ∙ ap row holds in
-    let gone : holdings_of u ≡ given_back m.accounts r.query = given-stands t r.session r (once-running t there) here ∙ ap (λ (b : Holdings). given_back b r.query) h.bytes in
-    let held : r.grant ≡ grant_of m.accounts.grants r.query = sym (grant-held t r.session r there here) ∙ ap (λ (b : Holdings). grant_of b.grants r.query) h.bytes in
-    let whole : taken (holdings_of u) r.query pool r.grant ≡ moved_to m.accounts r.query pool =
-    ap (λ (b : Holdings). taken b r.query pool r.grant) gone ∙ ap (λ (n : ℕ). taken (given_back m.accounts r.query) r.query pool n) held in
+    let gone : holdings_of u ≡ given_back m.runs.accounts r.query = given-stands t r.session r (once-running t there) here ∙ ap (λ (b : Holdings). given_back b r.query) h.bytes in
+    let held : r.grant ≡ grant_of m.runs.accounts.grants r.query = sym (grant-held t r.session r there here) ∙ ap (λ (b : Holdings). grant_of b.grants r.query) h.bytes in
+    let whole : taken (holdings_of u) r.query pool r.grant ≡ moved_to m.runs.accounts r.query pool =
+    ap (λ (b : Holdings). taken b r.query pool r.grant) gone ∙ ap (λ (n : ℕ). taken (given_back m.runs.accounts r.query) r.query pool n) held in
     ap (bytes_under m.definitions a) (more ∙ ap (λ (l : List Runner). l ++ now ∷ []) out)
-    ∙ subst (λ (b : Holdings). bytes_under m.definitions b (without_runner r.session m.running ++ now ∷ []) ≡ b) (sym is) (last ∙ whole)
+    ∙ subst (λ (b : Holdings). bytes_under m.definitions b (without_runner r.session m.runs.running ++ now ∷ []) ≡ b) (sym is) (last ∙ whole)
 
 -- there is room for it among those that run
 room-running : (s : State) (session : ℕ) (r : Runner) → IsHealthy s → runner_of s.running session ≡ Some r → length (without_runner session s.running) < SESSIONS_MOST
@@ -151,7 +151,7 @@ room-running s session r h found =
     )
 
 pub room-inside : (m : Inside) (s : State) (session : ℕ) (r : Runner) (left : List Runner) → seen_state m ≡ s → IsHealthy s → runner_of s.running session ≡ Some r
-    → left ≡ without_runner session m.running → length left < SESSIONS_MOST
+    → left ≡ without_runner session m.runs.running → length left < SESSIONS_MOST
 room-inside m s session r left same h found is =
     subst (λ (l : List Runner). length l < SESSIONS_MOST) (sym (is ∙ ap (λ (t : State). without_runner session t.running) same)) (room-running s session r h found)
 

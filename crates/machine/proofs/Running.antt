@@ -11,6 +11,8 @@ use Rattle.rm_rules.specs.Healthy.{AreNumbered}
 use Rattle.rm_rules.proofs.Found.{without-unfound}
 use Rattle.rm_rules.proofs.Taken.{found_passes}
 use Rattle.accounts.specs.Accounts.{account_of}
+use Rattle.machine.specs.declared.machine.Machine.TheInside.{Inside}
+use Rattle.machine.specs.Inside.{seen_state}
 use Rattle.accounts.proofs.Standing.{account-stands}
 
 -- what is found stands behind those that do not pass
@@ -41,6 +43,9 @@ running-own xs n r found =
 -- no two run with one number
 pub once-running : (s : State) → AreNumbered s.last_query s.waiting s.running → (query : ℕ) → count_by (λ (r : Runner). eqb r.query query) s.running ≤ 1
 once-running s numbered query = omega (arith, numbered.once query)
+
+pub once-inside : (m : Inside) (s : State) → seen_state m ≡ s → AreNumbered s.last_query s.waiting s.running → (query : ℕ) → count_by (λ (r : Runner). eqb r.query query) m.runs.running ≤ 1
+once-inside m s same numbered query = once-running (seen_state m) (subst (λ (t : State). AreNumbered t.last_query t.waiting t.running) (sym same) numbered) query
 
 -- the account of a session's query, behind those that began before it
 pub account-told : (s : State) (session : ℕ) (r : Runner) → AreNumbered s.last_query s.waiting s.running → runner_of s.running session ≡ Some r

@@ -26,11 +26,11 @@ first-sizes (r ∷ rs) = ap (λ (ns : List ℕ). r.memory ∷ ns) (first-sizes r
 first-bytes : (d : Definitions) → bytes_under d (first_holdings d) [] ≡ first_holdings d
 first-bytes d = ap (λ (ns : List ℕ). let h : Holdings = record { in_force = total d; reserves = reserves_of (user_pools d.pools) ns; grants = [] } in h) (first-sizes (user_pools d.pools))
 
-pub tied-start : (m : Inside) → m.accounts ≡ first_holdings m.definitions → m.running ≡ [] → m.journal.items ≡ [] → m.counted ≡ 0
+pub tied-start : (m : Inside) → m.runs.accounts ≡ first_holdings m.definitions → m.runs.running ≡ [] → m.journal.items ≡ [] → m.counted ≡ 0
     → m.room + ENTRIES_BEYOND + CHANGES_MOST ≤ vec_capacity m.journal → IsTied m
 tied-start m is none empty zero capacity = record {
   bytes =
-      ap (bytes_under m.definitions m.accounts) none
+      ap (bytes_under m.definitions m.runs.accounts) none
       ∙ subst (λ (a : Holdings). bytes_under m.definitions a [] ≡ a) (sym is) (first-bytes m.definitions);
   journal = capacity;
   counted = zero ∙ ap counted_entries (sym empty);

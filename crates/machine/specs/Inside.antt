@@ -8,10 +8,10 @@ use Rattle.machine.specs.declared.machine.Machine.TheInside.{Inside}
 abbrev pub seen_state : Inside → State
 seen_state m = record {
   definitions = m.definitions;
-  in_force = m.accounts.in_force;
-  actual = map (λ e. e.size) m.accounts.reserves;
+  in_force = m.runs.accounts.in_force;
+  actual = map (λ e. e.size) m.runs.accounts.reserves;
   sessions = m.sessions;
-  running = m.running;
+  running = m.runs.running;
   waiting = m.waiting;
   clock = m.clock;
   counters = m.counters;
@@ -24,6 +24,6 @@ seen_state m = record {
 
 -- the accounts are the state's bytes, the journal has room for all its entries, and those that count are counted
 pub record IsTied (m : Inside) : Type 0 where
-  pub bytes : holdings_of (seen_state m) ≡ m.accounts
+  pub bytes : holdings_of (seen_state m) ≡ m.runs.accounts
   pub journal : m.room + ENTRIES_BEYOND + CHANGES_MOST ≤ vec_capacity m.journal
   pub counted : m.counted ≡ counted_entries m.journal.items

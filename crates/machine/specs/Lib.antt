@@ -4,3 +4,5 @@ pub mod Settling
 pub mod Taking
 pub mod Looked
 pub mod Desk
+pub mod Runs
+pub mod Sessions

@@ -7,4 +7,5 @@ mod done;
 mod dropping;
 mod machine;
 mod moves;
+mod runs;
 mod sessions;

@@ -6,8 +6,9 @@ ghost use Rattle.rm_rules.specs.State.{none_ended, is_defined};
 use crate::counters::{Counters, none_ended};
 use crate::done::Done;
 use crate::moves::Moves;
-use crate::sessions::{Runners, Sessions};
-use accounts::Accounts;
+use crate::runs::Runs;
+use crate::sessions::Sessions;
+use places::Guesses;
 use pool_queue::Queue;
 use rm_base::definitions::Definitions;
 use rm_base::entry::{Answered, Entry};
@@ -43,9 +44,8 @@ mod told;
 #[derive(Debug, Drop)]
 pub struct Machine {
     definitions: Definitions,
-    accounts: Accounts,
     sessions: Sessions,
-    running: Runners,
+    runs: Runs,
     waiting: Queue,
     clock: Moment,
     counters: Counters,
@@ -55,6 +55,7 @@ pub struct Machine {
     journal: Vec<Entry>,
     room: u32,
     counted: u64,
+    places: Guesses,
 }
 
 impl Model for Machine {
@@ -73,7 +74,6 @@ impl Model for Machine {
 #[derive(Drop)]
 struct Lists {
     sessions: Sessions,
-    running: Runners,
     waiting: Queue,
     moves: Moves,
     journal: Vec<Entry>,
@@ -82,7 +82,6 @@ struct Lists {
 /// The lists at the start, with room for so many entries.
 fn empty_lists(alloc: Global, entries: usize) -> Result<Lists, AllocError>
     ensures sessions { IfOk result (λ lists. lists.sessions ≡ []) }
-    ensures running { IfOk result (λ lists. lists.running ≡ []) }
     ensures waiting { IfOk result (λ lists. lists.waiting ≡ []) }
     ensures moves { IfOk result (λ lists. lists.moves ≡ []) }
     ensures journal { IfOk result (λ lists. lists.journal.items ≡ []) }
@@ -90,7 +89,6 @@ fn empty_lists(alloc: Global, entries: usize) -> Result<Lists, AllocError>
 {
     Ok(Lists {
         sessions: Sessions::new(alloc)?,
-        running: Runners::new(alloc)?,
         waiting: Queue::new(alloc)?,
         moves: Moves::new(alloc)?,
         journal: Vec::with_capacity(alloc, entries)?,
@@ -132,14 +130,14 @@ impl Machine {
         ensures { IfOk result (λ machine. machine ≡ start definitions room) }
     {
         let entries = room as usize + ENTRIES_BEYOND + CHANGES_MOST as usize;
-        let accounts = Accounts::new(alloc, &definitions)?;
+        let runs = Runs::new(alloc, &definitions)?;
         let counters = first_counters(alloc, definitions.pools.rows())?;
         let lists = empty_lists(alloc, entries)?;
+        let places = Guesses::of(definitions.pools.rows());
         Ok(Machine {
             definitions,
-            accounts,
             sessions: lists.sessions,
-            running: lists.running,
+            runs,
             waiting: lists.waiting,
             clock: Moment::of(0),
             counters,
@@ -149,6 +147,7 @@ impl Machine {
             journal: lists.journal,
             room,
             counted: 0,
+            places,
         })
     }
 

@@ -1,5 +1,13 @@
 pub mod Places
+pub mod Merging
+pub mod Splits
+pub mod Counts
+pub mod Finding
+pub mod Keeping
+pub mod Leaving
+pub mod Numbering
 pub mod Order
+pub mod Best
 pub mod Scan
 pub mod ByNumber
-pub mod Parting
+pub mod Transferring

@@ -79,7 +79,7 @@ earlier d first None = first
 earlier d None (Some second) = Some second
 earlier d (Some first) (Some second) = cond (lt_z (priority_of d first) (priority_of d second)) (Some second) (Some first)
 
-earlier-none : (d : Definitions) (o : Option Waiter) → earlier d None o ≡ o
+pub earlier-none : (d : Definitions) (o : Option Waiter) → earlier d None o ≡ o
 earlier-none d None = refl
 earlier-none d (Some w) = refl
 

@@ -1,22 +1,25 @@
 //! The heads of the pools, and which of them is entitled.
-ghost use Rattle.std.specs.Prelude.{◌≡◌, ◌≤◌, Some, None, true, false, length, take};
-ghost use Rattle.std.specs.List.{list_any};
-ghost use Rattle.rm_base.specs.Name.{same_name};
+ghost use Rattle.std.specs.Prelude.{◌≡◌, ◌≤◌, Some, None, true, false, not};
 ghost use Rattle.rm_rules.specs.Definitions.{pool_row};
 ghost use Rattle.rm_rules.specs.Ask.{is_too_large};
 ghost use Rattle.rm_rules.specs.Sound.{IsSound, has_pool};
-ghost use Rattle.pool_queue.specs.Heads.{head_of, first_of, with_head, entitled};
+ghost use Rattle.pool_queue.specs.Heads.{head_of, stands_before, first_of, with_head, entitled, heads_of, candidates_of};
+ghost use Rattle.std.specs.List.{list_all};
+ghost use Rattle.pool_queue.specs.Queue.{is_large};
+ghost use Rattle.pool_queue.specs.Lines.{AreFilled};
 
+use crate::lines::{Arrived, Line};
 use rm_base::definitions::Definitions;
-use rm_base::name::Name;
 use rm_rules::readings::pool_row;
 use rm_rules::room::Room;
-use rm_rules::state::{Judged, Waiter};
+use rm_rules::state::Judged;
 
-/// The first waiting query of a pool: its number, the pool's priority, and how it fits.
+/// The first waiting query of a pool: its number, the number of its arrival, the pool's priority, and how it
+/// fits.
 #[derive(Clone, Copy, Debug)]
 pub struct Head {
     pub query: u64,
+    pub number: i64,
     pub priority: i32,
     pub judged: Judged,
 }
@@ -29,35 +32,36 @@ pub struct Candidates {
     pub needs_none: Option<Head>,
 }
 
-/// One of so many from the front waits in the pool.
-pub fn has_earlier(waiting: &[Waiter], count: usize, pool: Name) -> bool
-    requires { count ≤ length waiting.now }
-    ensures { result ≡ list_any (λ b. same_name b.pool pool) (take count waiting.now) }
-{
-    waiting[..count].iter().any(|b| b.pool.same(pool))
-}
-
 /// The waiting query as a head.
-pub fn head_of<R: Room>(definitions: &Definitions, room: &R, w: &Waiter) -> Head
+fn head_of<R: Room>(definitions: &Definitions, room: &R, a: &Arrived) -> Head
     requires sound { IsSound definitions.now }
     requires same { R.definitions room.now ≡ definitions.now }
-    requires known { has_pool definitions.now w.now.pool ≡ true }
-    requires small { is_too_large definitions.now (pool_row definitions.now w.now.pool) w.now.user w.now.floor ≡ false }
-    ensures { result ≡ head_of definitions.now (R.holdings room.now) w.now }
+    requires known { has_pool definitions.now a.now.waiter.pool ≡ true }
+    requires small { is_too_large definitions.now (pool_row definitions.now a.now.waiter.pool) a.now.waiter.user a.now.waiter.floor ≡ false }
+    ensures { result ≡ head_of definitions.now (R.holdings room.now) a.now }
 {
     Head {
-        query: w.query,
-        priority: pool_row(definitions, w.pool).priority,
-        judged: room.judge(w.pool, w.user, w.floor),
+        query: a.waiter.query,
+        number: a.number,
+        priority: pool_row(definitions, a.waiter.pool).priority,
+        judged: room.judge(a.waiter.pool, a.waiter.user, a.waiter.floor),
     }
 }
 
-/// The first in queue order, of the best so far and a head behind it.
+/// The first stands before the second in queue order: by priority, falling, and by the numbers of arrival where priorities
+/// are equal.
+fn stands_before(a: &Head, b: &Head) -> bool
+    ensures { result ≡ stands_before a.now b.now }
+{
+    a.priority > b.priority || a.priority >= b.priority && a.number < b.number
+}
+
+/// The first in queue order, of the best so far and another head.
 fn first_of(best: Option<Head>, head: Head) -> Option<Head>
     ensures { result ≡ first_of best (Some head) }
 {
     match best {
-        Some(best) if best.priority >= head.priority => Some(best),
+        Some(best) if !stands_before(&head, &best) => Some(best),
         _ => Some(head),
     }
 }
@@ -73,7 +77,7 @@ impl Candidates {
         }
     }
 
-    /// With a head that stands behind those seen so far.
+    /// With another head.
     pub fn with(self, head: Head) -> Candidates
         ensures { result ≡ with_head self head }
     {
@@ -101,4 +105,20 @@ impl Candidates {
             _ => self.needs_none.map(|head| head.query),
         }
     }
+}
+
+/// The candidates among the first of each list. The room is asked once for each.
+pub fn heads_seen<R: Room>(definitions: &Definitions, room: &R, lines: &[Line]) -> Candidates
+    requires sound { IsSound definitions.now }
+    requires same { R.definitions room.now ≡ definitions.now }
+    requires filled { AreFilled lines.now }
+    requires known { list_all (λ a. has_pool definitions.now a.waiter.pool) (heads_of lines.now) ≡ true }
+    requires small { list_all (λ a. not (is_large definitions.now a.waiter)) (heads_of lines.now) ≡ true }
+    ensures { result ≡ candidates_of definitions.now (R.holdings room.now) (heads_of lines.now) }
+{
+    let mut candidates = Candidates::none();
+    for line in lines {
+        candidates = candidates.with(head_of(definitions, room, &line.waiters.rows()[0]));
+    }
+    candidates
 }

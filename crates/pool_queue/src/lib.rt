@@ -2,10 +2,15 @@
 #![tactic(auto)]
 
 mod deadlines;
+mod first;
 mod heads;
 pub mod laws;
+mod lines;
+mod numbers;
+mod sequence;
 mod transfer;
 mod waiting;
 
 pub use crate::deadlines::deadline;
+pub use crate::first::Test;
 pub use crate::waiting::Queue;

@@ -4,7 +4,6 @@ ghost use Rattle.std.specs.Prelude.{◌≡◌, Some, Ok, Err, IfOk, IfErr, OnErr
 use super::Machine;
 use crate::done::Done;
 use crate::moves::stopping;
-use crate::sessions::{runner_of, session_called, set_runner, waiter_of};
 use rm_base::refusal::Refusal;
 use rm_base::reply::{End, Reply};
 use rm_rules::answer::Answer;
@@ -22,7 +21,7 @@ impl Machine {
         requires { runner_of self.old.running r.now.session ≡ Some r.now }
         ensures { self.new ≡ asked_to_stop self.old r.now }
     {
-        set_runner(&mut self.running, r.session, stopping(r));
+        self.runs.mark(r, &stopping(r));
     }
 
     /// The session's query ends where it waits, and is to stop where it runs. To cancel that again changes nothing.
@@ -33,11 +32,11 @@ impl Machine {
         ensures kept { OnErr result (self.new ≡ self.old) }
     {
         let answer = Answer::Says(Reply::Cancelled);
-        if let Some(w) = waiter_of(self.waiting.waiters(), y.number) {
+        if let Some(w) = self.waiting.waiter_of(y.number) {
             self.end_as(w, End::Cancelled);
             return Ok(Done::changing(answer));
         }
-        let Some(r) = runner_of(self.running.rows(), y.number) else {
+        let Some(r) = self.runs.of(y.number) else {
             return Err(Refusal::NotLive);
         };
         if r.cancelled {
@@ -54,7 +53,7 @@ impl Machine {
         ensures err { IfErr result (λ refusal. cancelling self.old target x.now ≡ Err refusal) }
         ensures kept { OnErr result (self.new ≡ self.old) }
     {
-        let Some(y) = session_called(self.sessions.rows(), target) else {
+        let Some(y) = self.sessions.called(target) else {
             return Err(Refusal::NoSuchSession);
         };
         if !x.user.same(y.user) {

@@ -4,7 +4,7 @@ ghost use Rattle.rm_rules.specs.Change.{within_moments};
 
 use super::Machine;
 use crate::done::Done;
-use crate::sessions::{has_cap, set_cap};
+use crate::sessions::has_cap;
 use rm_base::limits::MOMENT_MOST;
 use rm_base::refusal::Refusal;
 use rm_base::reply::Reply;
@@ -39,7 +39,7 @@ impl Machine {
         if has_cap(x, cap) {
             return Ok(Done::quiet(answer));
         }
-        set_cap(&mut self.sessions, x.number, cap);
+        self.sessions.set_cap(x.number, cap);
         Ok(Done::changing(answer))
     }
 }

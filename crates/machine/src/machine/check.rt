@@ -6,7 +6,6 @@ use super::Machine;
 use super::fit::takes_grant;
 use crate::done::Done;
 use crate::moves::{add_move, leaving_for, move_of, moved};
-use crate::sessions::{remove_runner, runner_of, set_runner};
 use cascade::{running_time, verdict};
 use rm_base::name::Name;
 use rm_base::refusal::Refusal;
@@ -30,7 +29,7 @@ impl Machine {
         requires runs { runner_of self.now.running r.now.session ≡ Some r.now }
         ensures { result ≡ takes self.now r.now pool }
     {
-        let seen = self.accounts.if_moved(r.query, pool);
+        let seen = self.runs.accounts().if_moved(r.query, pool);
         takes_grant(&self.definitions, &seen, pool, r.grant)
     }
 
@@ -43,9 +42,7 @@ impl Machine {
         requires takes { takes self.old r.now pool ≡ true }
         ensures { self.new ≡ moved_on self.old r.now pool }
     {
-        self.accounts.move_to(r.query, pool);
-        remove_runner(&mut self.running, r.session);
-        self.running.add(moved(self.clock, pool, r));
+        self.runs.go_on(r, &moved(self.clock, pool, r));
         add_move(&mut self.moves, move_of(self.clock, pool, r));
     }
 
@@ -55,7 +52,7 @@ impl Machine {
         requires moves { r.now.moves < MOVES_MOST }
         ensures { self.new ≡ asked_to_leave self.old r.now pool }
     {
-        set_runner(&mut self.running, r.session, leaving_for(pool, r));
+        self.runs.mark(r, &leaving_for(pool, r));
     }
 
     /// The running query goes on in the pool, where that takes it, and else is to give way to wait there.
@@ -82,7 +79,7 @@ impl Machine {
         ensures err { IfErr result (λ refusal. checking self.old x.now ≡ Err refusal) }
         ensures kept { OnErr result (self.new ≡ self.old) }
     {
-        let Some(r) = runner_of(self.running.rows(), x.number) else {
+        let Some(r) = self.runs.of(x.number) else {
             return Err(Refusal::NotLive);
         };
         let running = running_time(&r, self.clock);

@@ -3,7 +3,7 @@ ghost use Rattle.std.specs.Prelude.{◌≡◌, Ok, Err, IfOk, IfErr, OnErr};
 
 use super::Machine;
 use crate::done::Done;
-use crate::sessions::{has_chosen, set_choice};
+use crate::sessions::has_chosen;
 use rm_base::name::Name;
 use rm_base::refusal::Refusal;
 use rm_base::reply::Reply;
@@ -46,7 +46,7 @@ impl Machine {
         if has_chosen(x, pool) {
             return Ok(Done::quiet(answer));
         }
-        set_choice(&mut self.sessions, x.number, pool);
+        self.sessions.set_choice(x.number, pool);
         Ok(Done::changing(answer))
     }
 }

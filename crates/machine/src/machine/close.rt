@@ -3,7 +3,7 @@ ghost use Rattle.std.specs.Prelude.{◌≡◌, Ok, Err, IfOk, IfErr, OnErr};
 
 use super::Machine;
 use crate::done::Done;
-use crate::sessions::{is_running, remove_session, waiter_of};
+use crate::sessions::is_running;
 use rm_base::refusal::Refusal;
 use rm_base::reply::Reply;
 use rm_rules::answer::Answer;
@@ -21,7 +21,7 @@ impl Machine {
         requires numbered { AreNumbered self.old.last_query self.old.waiting self.old.running }
         ensures { self.new ≡ record self.old { waiting = without_waiter session self.old.waiting } }
     {
-        if let Some(w) = waiter_of(self.waiting.waiters(), session) {
+        if let Some(w) = self.waiting.waiter_of(session) {
             self.waiting.leave(w.query);
         }
     }
@@ -38,7 +38,7 @@ impl Machine {
             return Err(Refusal::SessionBusy);
         }
         self.remove_waiting(x.number);
-        remove_session(&mut self.sessions, x.number);
+        self.sessions.remove(x.number);
         Ok(Done::changing(Answer::Says(Reply::Closed)))
     }
 }

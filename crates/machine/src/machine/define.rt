@@ -4,6 +4,7 @@ ghost use Rattle.std.specs.Prelude.{◌≡◌, Ok, Err, length, IsTrue, IsOk, If
 use super::Machine;
 use crate::counters::none_ended;
 use crate::done::Done;
+use places::Guesses;
 use pool_table::{accept, apply};
 use rm_base::refusal::Refusal;
 use rm_base::reply::Reply;
@@ -37,7 +38,7 @@ impl Machine {
         let rows = self.definitions.pools.rows();
         if pools < rows.len() {
             let name = rows[pools].name;
-            self.accounts.add_pool(name);
+            self.runs.add_pool(name);
             self.counters.add(none_ended());
         }
     }
@@ -68,6 +69,13 @@ impl Machine {
         }
     }
 
+    /// The places of the pools are found as they are now.
+    fn note_places(&mut self)
+        ensures { self.new ≡ self.old }
+    {
+        self.places = Guesses::of(self.definitions.pools.rows());
+    }
+
     /// The statement is accepted and applied, or refused.
     pub fn define(&mut self, statement: &Statement) -> Result<Done, Refusal>
         requires healthy { IsHealthy self.old }
@@ -78,6 +86,7 @@ impl Machine {
     {
         accept(&self.definitions, statement)?;
         self.take_statement(statement);
+        self.note_places();
         Ok(Done::changing(Answer::Says(Reply::Defined)))
     }
 }

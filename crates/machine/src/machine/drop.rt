@@ -2,7 +2,7 @@
 ghost use Rattle.std.specs.Prelude.{◌≡◌, Ok, IsOk};
 
 use super::Machine;
-use crate::dropping::{goes_before, put_runners_beside, put_sessions_beside, remove_count};
+use crate::dropping::{goes_before, remove_count};
 use pool_table::apply;
 use rm_base::name::Name;
 use rm_base::statement::Statement;
@@ -25,9 +25,8 @@ impl Machine {
         let front = goes_before(&self.definitions, pool);
         remove_count(self.definitions.pools.rows(), pool, &mut self.counters);
         apply(&mut self.definitions, &Statement::DropPool(pool));
-        self.accounts.fold_into_general(pool);
+        self.runs.fold_into_general(pool);
         self.waiting.transfer(pool, front);
-        put_sessions_beside(&mut self.sessions, pool);
-        put_runners_beside(&mut self.running, pool);
+        self.sessions.put_beside(pool);
     }
 }

@@ -1,21 +1,38 @@
 //! Queries that end in the queue: those that are too large now, and those whose time has come.
 ghost use Rattle.std.specs.Prelude.{◌≡◌, ◌==◌, length, is_some, find};
+ghost use Rattle.rm_rules.specs.Sound.{IsSound};
 
 use super::Machine;
 use crate::counters::count_end;
-use crate::sessions::set_phase;
-use budgets::least_cap;
-use pool_queue::deadline;
+use budgets::row_least_cap;
+use pool_queue::{Test, deadline};
 use rm_base::name::Name;
 use rm_base::reply::End;
 use rm_rules::state::{Cap, Phase, Waiter};
 
+/// Whether a waiting query's floor is above its least cap by the machine's definitions.
+#[derive(Clone, Copy)]
+struct IsTooLarge<'a> {
+    machine: &'a Machine,
+}
+
+impl Test for IsTooLarge<'_> {
+    ghost use Rattle.pool_queue.specs.Queue.{is_large};
+
+    ghost ready = { λ test. IsSound test.machine.now.definitions };
+
+    ghost passes = { λ test. is_large test.machine.now.definitions };
+
+    fn passes(&self, w: &Waiter) -> bool {
+        self.machine.least_cap(w.pool, w.user).bytes < w.floor
+    }
+}
+
 impl Machine {
     ghost use Rattle.rm_rules.specs.Definitions.{pool_row};
-    ghost use Rattle.rm_rules.specs.Ask.{least_cap, is_too_large};
+    ghost use Rattle.rm_rules.specs.Ask.{least_cap};
     ghost use Rattle.rm_rules.specs.Deadlines.{ended_as, first_due, first_nowait, timed_out, without_due};
     ghost use Rattle.rm_rules.specs.Settle.{first_too_large, too_large_end, without_too_large, without_nowait};
-    ghost use Rattle.rm_rules.specs.Sound.{IsSound};
     ghost use Rattle.rm_rules.specs.Healthy.{AreNumbered, IsHealthy};
     ghost use Rattle.machine.specs.Settling.{CanSettle, IsSettling, MayLeave};
 
@@ -24,15 +41,7 @@ impl Machine {
         requires { IsSound self.now.definitions }
         ensures { result ≡ least_cap self.now.definitions (pool_row self.now.definitions pool) user }
     {
-        least_cap(&self.definitions, pool, user)
-    }
-
-    /// The waiting query's floor is above its least cap.
-    fn is_too_large(&self, w: &Waiter) -> bool
-        requires { IsSound self.now.definitions }
-        ensures { result ≡ is_too_large self.now.definitions (pool_row self.now.definitions w.now.pool) w.now.user w.now.floor }
-    {
-        self.least_cap(w.pool, w.user).bytes < w.floor
+        row_least_cap(&self.definitions, &self.row(pool), user)
     }
 
     /// How a waiting query that is too large ends.
@@ -49,16 +58,14 @@ impl Machine {
         requires { IsSound self.now.definitions }
         ensures { result ≡ first_too_large self.now }
     {
-        let waiting = self.waiting.waiters();
-        waiting.iter().copied().find(|w| self.is_too_large(w))
+        self.waiting.first_that(&IsTooLarge { machine: self })
     }
 
     /// The waiting query of this number.
     pub fn waiter_called(&self, query: u64) -> Option<Waiter>
         ensures { result ≡ find (λ w. w.query == query) self.now.waiting }
     {
-        let waiting = self.waiting.waiters();
-        waiting.iter().copied().find(|w| w.query == query)
+        self.waiting.waiter_called(query)
     }
 
     /// The first waiting query whose deadline has come.
@@ -87,7 +94,7 @@ impl Machine {
     {
         let rows = self.definitions.pools.rows();
         count_end(rows, w.pool, end, &mut self.counters);
-        set_phase(&mut self.sessions, w.session, Phase::Ended(end));
+        self.sessions.set_phase(w.session, Phase::Ended(end));
         self.waiting.leave(w.query);
     }
 

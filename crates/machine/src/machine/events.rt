@@ -5,19 +5,22 @@ ghost use Rattle.rm_base.specs.declared.refusal.Refusal.TheVariants.{NoSuchSessi
 
 use super::Machine;
 use crate::done::Done;
-use crate::sessions::{live_queries, session_called};
 use pool_table::{default_pool, usage};
+use rm_base::definitions::default_pool_row;
 use rm_base::event::Event;
 use rm_base::limits::{ENTRIES_A_QUERY, ENTRIES_A_SESSION};
 use rm_base::name::Name;
 use rm_base::refusal::Refusal;
+use rm_base::rows::PoolRow;
 use rm_rules::readings::{pool_called, user_called};
 use rm_rules::state::Session;
 
 impl Machine {
     ghost use Rattle.rm_rules.specs.State.{session_of, session_called, session_pool, counted_entries, live_queries};
-    ghost use Rattle.rm_rules.specs.Definitions.{user_called, usage};
-    ghost use Rattle.rm_rules.specs.Sound.{has_pool};
+    ghost use Rattle.std.specs.Prelude.{IsTrue};
+    ghost use Rattle.rm_base.specs.Ranges.{is_pool_in_range};
+    ghost use Rattle.rm_rules.specs.Definitions.{pool_row, user_called, usage};
+    ghost use Rattle.rm_rules.specs.Sound.{IsSound, has_pool};
     ghost use Rattle.rm_rules.specs.Change.{is_journal_full, change};
     ghost use Rattle.rm_rules.specs.Healthy.{IsHealthy};
     ghost use Rattle.rm_rules.specs.Replay.{IsFormed};
@@ -30,7 +33,7 @@ impl Machine {
         ensures none { OnErr result (session_of self.now seat number ≡ None) }
         ensures err { IfErr result (λ refusal. refusal ≡ NoSuchSession) }
     {
-        let Some(x) = session_called(self.sessions.rows(), number) else {
+        let Some(x) = self.sessions.called(number) else {
             return Err(Refusal::NoSuchSession);
         };
         if x.seat == seat {
@@ -56,6 +59,19 @@ impl Machine {
         pool_called(self.definitions.pools.rows(), pool).is_some()
     }
 
+    /// The pool's row; a pool that is not there is read as one with all defaults.
+    pub fn row(&self, pool: Name) -> PoolRow
+        requires { IsSound self.now.definitions }
+        ensures value { result ≡ pool_row self.now.definitions pool }
+        ensures in_range { IsTrue (is_pool_in_range result) }
+    {
+        let rows = self.definitions.pools.rows();
+        match self.places.place_of(rows, pool) {
+            Some(place) => rows[place],
+            None => default_pool_row(pool),
+        }
+    }
+
     pub fn has_user(&self, user: Name) -> bool
         ensures { result ≡ is_some (user_called self.now.definitions.users user) }
     {
@@ -73,7 +89,7 @@ impl Machine {
         ensures value { result ≡ live_queries self.now.sessions }
         ensures most { result ≤ SESSIONS_MOST }
     {
-        live_queries(self.sessions.rows())
+        self.sessions.live()
     }
 
     /// With one entry more, the journal would not keep free what so many live queries and open sessions may still need.

@@ -3,7 +3,7 @@ ghost use Rattle.std.specs.Prelude.{◌≡◌, Ok, Err, IfOk, IfErr, OnErr};
 
 use super::Machine;
 use crate::done::Done;
-use crate::sessions::{is_running, remove_runner, runner_of, set_phase};
+use crate::sessions::is_running;
 use rm_base::refusal::Refusal;
 use rm_base::reply::Reply;
 use rm_rules::answer::Answer;
@@ -21,11 +21,10 @@ impl Machine {
         ensures state { self.new ≡ record self.old { running = without_runner session self.old.running } }
         ensures grant { result ≡ grant_of self.old.running session }
     {
-        let Some(r) = runner_of(self.running.rows(), session) else {
+        let Some(r) = self.runs.of(session) else {
             return 0;
         };
-        self.accounts.give_back(r.query);
-        remove_runner(&mut self.running, session);
+        self.runs.end(&r);
         r.grant
     }
 
@@ -40,7 +39,7 @@ impl Machine {
             return Err(Refusal::NotLive);
         }
         let grant = self.remove_running(x.number);
-        set_phase(&mut self.sessions, x.number, Phase::Idle);
+        self.sessions.set_phase(x.number, Phase::Idle);
         Ok(Done::changing(Answer::Says(Reply::Released(grant))))
     }
 }

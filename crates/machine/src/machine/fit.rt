@@ -1,5 +1,6 @@
 //! How a query fits in a pool, by the definitions and the bytes.
-ghost use Rattle.std.specs.Prelude.{◌≡◌, ◌≤◌, ◌*◌};
+ghost use Rattle.std.specs.Prelude.{◌≡◌, ◌≤◌, ◌*◌, IsTrue};
+ghost use Rattle.rm_base.specs.Ranges.{is_pool_in_range};
 ghost use Rattle.rm_base.specs.declared.limits.TheConstants.{MEMORY_MOST};
 ghost use Rattle.rm_rules.specs.Definitions.{pool_row};
 ghost use Rattle.rm_rules.specs.Accounting.{running_in};
@@ -10,33 +11,42 @@ ghost use Rattle.machine.specs.Taking.{lets_in, lends, takes_grant};
 
 use super::Machine;
 use accounts::{Accounts, IfMoved};
-use budgets::{asked, cap, threshold};
+use budgets::{cap, row_asked, row_cap, row_threshold, threshold};
 use rm_base::definitions::Definitions;
 use rm_base::name::Name;
+use rm_base::rows::PoolRow;
 use rm_rules::readings::pool_row;
 use rm_rules::room::Room;
 use rm_rules::state::Judged;
 
-/// Fewer queries run in the pool than its MAXCONCURRENCY.
-fn has_place(definitions: &Definitions, accounts: &Accounts, pool: Name) -> bool
-    ensures { result ≡ has_place (pool_row definitions.now pool) (running_in pool accounts.now.grants) }
+/// Fewer queries run in the pool of this row than its MAXCONCURRENCY.
+fn has_place(accounts: &Accounts, row: &PoolRow, pool: Name) -> bool
+    ensures { result ≡ has_place row.now (running_in pool accounts.now.grants) }
 {
-    match pool_row(definitions, pool).concurrency {
+    match row.concurrency {
         Some(most) => accounts.running(pool) < most,
         None => true,
     }
 }
 
-/// The pool lets in a query of so many bytes.
-fn poolfit(definitions: &Definitions, accounts: &Accounts, pool: Name, bytes: u64) -> bool
+/// The pool, whose row it is, lets in a query of so many bytes.
+fn poolfit(
+    definitions: &Definitions,
+    accounts: &Accounts,
+    row: &PoolRow,
+    pool: Name,
+    bytes: u64,
+) -> bool
     requires sound { IsSound definitions.now }
+    requires row { row.now ≡ pool_row definitions.now pool }
+    requires in_range { IsTrue (is_pool_in_range row.now) }
     requires bytes { bytes ≤ 2 * MEMORY_MOST }
     ensures { result ≡ poolfit definitions.now accounts.now pool bytes }
 {
     let used = accounts.used(pool);
-    has_place(definitions, accounts, pool)
-        && used <= threshold(definitions, pool)
-        && used + bytes <= cap(definitions, pool)
+    has_place(accounts, row, pool)
+        && used <= row_threshold(definitions, row)
+        && used + bytes <= row_cap(definitions, row)
 }
 
 /// GENERAL has so many free bytes, and its use is within its threshold.
@@ -47,13 +57,21 @@ fn can_lend(definitions: &Definitions, accounts: &Accounts, bytes: u64) -> bool
     accounts.lent() <= threshold(definitions, Name::general()) && bytes <= accounts.free()
 }
 
-/// How a query of so many bytes fits in the pool.
-fn judged(definitions: &Definitions, accounts: &Accounts, pool: Name, bytes: u64) -> Judged
+/// How a query of so many bytes fits in the pool, whose row it is.
+fn judged(
+    definitions: &Definitions,
+    accounts: &Accounts,
+    row: &PoolRow,
+    pool: Name,
+    bytes: u64,
+) -> Judged
     requires sound { IsSound definitions.now }
+    requires row { row.now ≡ pool_row definitions.now pool }
+    requires in_range { IsTrue (is_pool_in_range row.now) }
     requires bytes { bytes ≤ 2 * MEMORY_MOST }
     ensures { result ≡ judged definitions.now accounts.now pool bytes }
 {
-    let poolfit = poolfit(definitions, accounts, pool, bytes);
+    let poolfit = poolfit(definitions, accounts, row, pool, bytes);
     let need = accounts.need(pool, bytes);
     let fits = poolfit && (need == 0 || can_lend(definitions, accounts, need));
     Judged {
@@ -114,7 +132,8 @@ impl Room for Machine {
     ghost holdings = { holdings_of };
 
     fn judge(&self, pool: Name, user: Name, floor: u64) -> Judged {
-        let bytes = asked(&self.definitions, pool, user, floor);
-        judged(&self.definitions, &self.accounts, pool, bytes)
+        let row = self.row(pool);
+        let bytes = row_asked(&self.definitions, &row, user, floor);
+        judged(&self.definitions, self.runs.accounts(), &row, pool, bytes)
     }
 }

@@ -4,7 +4,6 @@ ghost use Rattle.std.specs.Prelude.{◌≡◌, Some, Ok, Err, IfOk, IfErr, OnErr
 use super::Machine;
 use crate::done::Done;
 use crate::moves::{add_move, move_of, requeued};
-use crate::sessions::{remove_runner, runner_of, set_phase};
 use rm_base::name::Name;
 use rm_base::refusal::Refusal;
 use rm_rules::answer::Answer;
@@ -23,9 +22,8 @@ impl Machine {
         requires runs { runner_of self.old.running r.now.session ≡ Some r.now }
         ensures { self.new ≡ gave_way self.old r.now pool }
     {
-        self.accounts.give_back(r.query);
-        remove_runner(&mut self.running, r.session);
-        set_phase(&mut self.sessions, r.session, Phase::Waiting);
+        self.runs.end(r);
+        self.sessions.set_phase(r.session, Phase::Waiting);
         self.waiting.join(requeued(self.clock, pool, r));
         add_move(&mut self.moves, move_of(self.clock, pool, r));
     }
@@ -37,7 +35,7 @@ impl Machine {
         ensures err { IfErr result (λ refusal. giving_way self.old x.now ≡ Err refusal) }
         ensures kept { OnErr result (self.new ≡ self.old) }
     {
-        let Some(r) = runner_of(self.running.rows(), x.number) else {
+        let Some(r) = self.runs.of(x.number) else {
             return Err(Refusal::NotLive);
         };
         let Some(pool) = r.leaving else {

@@ -111,9 +111,11 @@ impl Machine {
         ensures { IfOk result (λ seen.
             seen.items ≡ map running_seen (zip self.now.running (accounts (holdings_of self.now)))) }
     {
-        let mut seen = Vec::with_capacity(alloc, self.running.len())?;
-        for r in self.running.rows() {
-            seen.push_reserved(running_seen(r, self.accounts.account_of(r.query)));
+        let accounts = self.runs.accounts();
+        let mut seen = Vec::with_capacity(alloc, self.runs.len())?;
+        for i in 0..self.runs.len() {
+            let r = self.runs.at(i);
+            seen.push_reserved(running_seen(&r, accounts.account_of(r.query)));
         }
         Ok(seen)
     }
@@ -124,11 +126,11 @@ impl Machine {
         ensures { IfOk result (λ snapshot. snapshot ≡ snapshot_of self.now) }
     {
         Ok(Snapshot {
-            in_force: self.accounts.in_force(),
-            actual: Listed::of(sizes_seen(alloc, self.accounts.reserves())?),
+            in_force: self.runs.accounts().in_force(),
+            actual: Listed::of(sizes_seen(alloc, self.runs.accounts().reserves())?),
             sessions: Listed::of(self.sessions_seen(alloc)?),
             running: Listed::of(self.runs_seen(alloc)?),
-            waiting: Listed::of(queue_seen(alloc, self.waiting.waiters())?),
+            waiting: Listed::of(queue_seen(alloc, &self.waiting.to_vec(alloc)?)?),
             counters: Listed::of(counters_seen(alloc, self.counters.rows())?),
             moves: Listed::of(moves_seen(alloc, self.moves.rows())?),
             definitions: self.definitions.copy(alloc)?,

@@ -3,7 +3,6 @@ ghost use Rattle.std.specs.Prelude.{◌≡◌, Ok, Err, IfOk, IfErr, OnErr};
 
 use super::Machine;
 use crate::done::Done;
-use crate::sessions::set_phase;
 use rm_base::refusal::Refusal;
 use rm_base::reply::Reply;
 use rm_rules::answer::Answer;
@@ -25,7 +24,7 @@ impl Machine {
             Phase::Waiting => Ok(quiet),
             Phase::Running => Ok(quiet),
             Phase::Ended(end) => {
-                set_phase(&mut self.sessions, x.number, Phase::Idle);
+                self.sessions.set_phase(x.number, Phase::Idle);
                 Ok(Done::changing(Answer::Says(Reply::Ended(end))))
             }
         }

@@ -3,8 +3,7 @@ ghost use Rattle.std.specs.Prelude.{◌≡◌, ◌<◌, ◌≤◌, ◌==◌, ◌
 ghost use Rattle.rm_base.specs.declared.limits.TheConstants.{SESSIONS_MOST, MEMORY_MOST};
 
 use super::Machine;
-use crate::sessions::set_phase;
-use budgets::asked;
+use budgets::row_asked;
 use rm_rules::state::{Phase, Runner, Waiter};
 
 impl Machine {
@@ -37,11 +36,10 @@ impl Machine {
         requires leaves { MayLeave self.old.waiting w }
         ensures { self.new ≡ admitted self.old w }
     {
-        let grant = asked(&self.definitions, w.pool, w.user, w.floor);
-        set_phase(&mut self.sessions, w.session, Phase::Running);
+        let grant = row_asked(&self.definitions, &self.row(w.pool), w.user, w.floor);
+        self.sessions.set_phase(w.session, Phase::Running);
         self.waiting.leave(w.query);
-        self.accounts.take(w.query, w.pool, grant);
-        self.running.add(Runner {
+        self.runs.begin(&Runner {
             query: w.query,
             session: w.session,
             user: w.user,
@@ -72,7 +70,7 @@ impl Machine {
         requires { CanSettle self.old }
         ensures { self.new ≡ shuffled_state self.old }
     {
-        self.accounts.shuffle(&self.definitions);
+        self.runs.shuffle(&self.definitions);
     }
 
     /// What follows a change: too large queries end, sizes are shuffled, heads are admitted, queries that may not wait end,

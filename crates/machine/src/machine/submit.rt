@@ -4,7 +4,7 @@ ghost use Rattle.rm_base.specs.declared.limits.TheConstants.{SESSIONS_MOST, ENTR
 
 use super::Machine;
 use crate::done::Done;
-use crate::sessions::{is_idle, set_phase};
+use crate::sessions::is_idle;
 use rm_base::name::Name;
 use rm_base::refusal::Refusal;
 use rm_rules::answer::Answer;
@@ -73,7 +73,7 @@ impl Machine {
             ran: 0,
             moves: 0,
         });
-        set_phase(&mut self.sessions, x.number, Phase::Waiting);
+        self.sessions.set_phase(x.number, Phase::Waiting);
         self.last_query = query;
     }
 

@@ -2,7 +2,7 @@
 ghost use Rattle.std.specs.Prelude.{◌≡◌, Some};
 
 use super::Machine;
-use crate::sessions::{is_ended, phase_of, runner_of, session_called, set_phase, waiter_of};
+use crate::sessions::is_ended;
 use rm_base::refusal::Refusal;
 use rm_base::reply::Reply;
 use rm_rules::answer::Answer;
@@ -17,10 +17,10 @@ impl Machine {
         requires { AreNumbered self.now.last_query self.now.waiting self.now.running }
         ensures { result ≡ told_running self.now session (runner_of self.now.running session) }
     {
-        let Some(r) = runner_of(self.running.rows(), session) else {
+        let Some(r) = self.runs.of(session) else {
             return Reply::Refused(Refusal::NotLive);
         };
-        let account = self.accounts.account_of(r.query);
+        let account = self.runs.accounts().account_of(r.query);
         Reply::Admitted {
             query: r.query,
             pool: r.pool,
@@ -35,7 +35,7 @@ impl Machine {
         requires numbered { AreNumbered self.now.last_query self.now.waiting self.now.running }
         ensures { result ≡ told_waiting self.now session (waiter_of self.now.waiting session) }
     {
-        let Some(w) = waiter_of(self.waiting.waiters(), session) else {
+        let Some(w) = self.waiting.waiter_of(session) else {
             return Reply::Refused(Refusal::NotLive);
         };
         Reply::Waiting {
@@ -50,7 +50,7 @@ impl Machine {
         requires numbered { AreNumbered self.now.last_query self.now.waiting self.now.running }
         ensures { result ≡ told self.now session }
     {
-        let Some(x) = session_called(self.sessions.rows(), session) else {
+        let Some(x) = self.sessions.called(session) else {
             return Reply::Refused(Refusal::NoSuchSession);
         };
         match x.phase {
@@ -78,8 +78,8 @@ impl Machine {
     fn collect_end(&mut self, session: u32)
         ensures { self.new ≡ record self.old { sessions = without_end session self.old.sessions } }
     {
-        if is_ended(phase_of(self.sessions.rows(), session)) {
-            set_phase(&mut self.sessions, session, Phase::Idle);
+        if is_ended(self.sessions.phase_of(session)) {
+            self.sessions.set_phase(session, Phase::Idle);
         }
     }
 

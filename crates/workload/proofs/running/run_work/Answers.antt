@@ -1,4 +1,4 @@
-use Rattle.std.proofs.Common.{◌≡◌, ℕ, ◌-◌, Option, None, sym, ap, ◌∙◌}
+use Rattle.std.proofs.Common.{◌≡◌, ℕ, ◌-◌, Option, None, Some, sym, ap, ◌∙◌}
 use Rattle.std.proofs.lemmas.Result.{IfOk-weaker}
 use Rattle.rm_base.specs.declared.definitions.Definitions.{Definitions}
 use Rattle.rm_rules.specs.Definitions.{total, reserved}
@@ -15,3 +15,8 @@ returns-clause-text g c =
     let free : c.in_ok-free-in-None.field-0 ≡ free_at_rest o = c.in_ok-free-in-None.ensures.unreserved ∙ ap {B = ℕ} (λ (d : Definitions). total d - reserved d) defined in
     let lines = ap (λ (t : Tallied). summary_lines t c.in_ok-free-in-None.field-0) tally ∙ ap (summary_lines (tallied o o.count)) free ∙ ap (text_with o) failed in
     IfOk-weaker c.summary_lines.result _ _ (λ text is. is ∙ lines) c.summary_lines.ensures
+
+pub returns-in-Some-clause-text : goal.returns-in-Some-clause-text
+returns-in-Some-clause-text g c =
+    let failed : Some c.in-Some.query ≡ first_failed c.args.options.now = sym c.in-Some.is ∙ c.in_ok-query.ensures.failed in
+    IfOk-weaker c.failed_line.result _ _ (λ text is. is ∙ ap (text_with c.args.options.now) failed) c.failed_line.ensures

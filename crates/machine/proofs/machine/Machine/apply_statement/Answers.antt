@@ -1,10 +1,11 @@
 use Rattle.std.proofs.Common.{◌≡◌, ◌++◌, ◌∷◌, [], ◌∙◌, ap, sym, subst, refl, Ok, IsOk, List, length, get_or, arith}
 use Rattle.rm_base.specs.declared.entry.EndCounts.{EndCounts}
 use Rattle.rm_base.specs.declared.rows.PoolRow.{PoolRow}
+use Rattle.rm_rules.specs.declared.state.Runner.{Runner}
 use Rattle.rm_rules.specs.State.{State}
 use Rattle.rm_rules.specs.Acceptance.{accepted}
 use Rattle.machine.specs.Inside.{seen_state}
-use Rattle.machine.proofs.Inside.{sound_inside, sized_inside, name_inside}
+use Rattle.machine.proofs.Inside.{sound_inside, sized_inside, name_inside, bytes_under}
 use Rattle.machine.proofs.Defining.{added, altered, reserves-count, bytes-added, bytes-altered, state-added, state-altered}
 use Rattle.machine.proofs.machine.Machine.apply_statement.Goals as goal
 
@@ -38,7 +39,8 @@ invariant_of-self c =
     let row = get_or c.rows-rows.result.now c.len-pools.result c.index-rows-pools.result in
     let h = added m.definitions c.apply.new.definitions c.args.statement.now c.index-rows-pools.result c.len-pools.result c.rows-rows.result.now sound c.requires.drops_none c.apply.ensures.changed c.len-pools.ensures.value c.rows-rows.ensures.rows c.if-pools-rows.true in
     record {
-      bytes = bytes-added m c.apply.new.definitions row c.add_pool.new.self c.self.invariant sized h c.add_pool.ensures;
+      bytes = ap (bytes_under c.apply.new.definitions c.add_pool.new.self.accounts) c.add_pool.ensures.running
+          ∙ bytes-added m c.apply.new.definitions row c.add_pool.new.self.accounts c.self.invariant sized h c.add_pool.ensures.accounts;
       journal = c.self.invariant.journal;
       counted = c.self.invariant.counted;
     }
@@ -69,7 +71,8 @@ returns-then-pools-rows-clause-state c =
     let sound = sound_inside m c.args.self.now c.self.view_is c.requires.sound in
     let row = get_or c.rows-rows.result.now c.len-pools.result c.index-rows-pools.result in
     let h = added m.definitions c.apply.new.definitions c.args.statement.now c.index-rows-pools.result c.len-pools.result c.rows-rows.result.now sound c.requires.drops_none c.apply.ensures.changed c.len-pools.ensures.value c.rows-rows.ensures.rows c.if-pools-rows.true in
-    state-added m c.args.self.now c.apply.new.definitions row c.add_pool.new.self c.add.new.self c.self.view_is h c.add_pool.ensures
+    ap (λ (l : List Runner). seen_state (record m { definitions = c.apply.new.definitions; runs = record { accounts = c.add_pool.new.self.accounts; running = l }; counters = c.add.new.self })) c.add_pool.ensures.running
+    ∙ state-added m c.args.self.now c.apply.new.definitions row c.add_pool.new.self.accounts c.add.new.self c.self.view_is h c.add_pool.ensures.accounts
     (c.add.ensures ∙ ap (λ (e : EndCounts). m.counters ++ e ∷ []) c.none_ended.ensures)
 
 pub returns-else-pools-rows-clause-state : goal.returns-else-pools-rows-clause-state

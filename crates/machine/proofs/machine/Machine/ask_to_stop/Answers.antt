@@ -1,7 +1,8 @@
-use Rattle.std.proofs.Common.{ap}
-use Rattle.rm_rules.specs.Holdings.{holding}
+use Rattle.std.proofs.Common.{ap, ◌∙◌}
+use Rattle.rm_rules.specs.Holdings.{Holdings, holding}
 use Rattle.rm_rules.specs.Moving.{stopping}
-use Rattle.machine.proofs.Marking.{bytes-marked, state-marked}
+use Rattle.machine.specs.Inside.{seen_state}
+use Rattle.machine.proofs.Marking.{bytes-marked, marked-accounts, state-marked}
 use Rattle.machine.proofs.Moving.{runs-inside}
 use Rattle.machine.proofs.machine.Machine.ask_to_stop.Goals as goal
 
@@ -9,7 +10,8 @@ pub invariant_of-self : goal.invariant_of-self
 invariant_of-self c =
     let found = runs-inside c.self.inside c.args.self.now c.args.r.now.session c.args.r.now c.self.view_is c.requires in
     record {
-      bytes = bytes-marked c.self.inside c.args.r.now.session c.args.r.now c.stopping.result c.set_runner.new.running c.self.invariant found (ap holding c.stopping.ensures) c.set_runner.ensures;
+      bytes = marked-accounts c.self.inside c.mark.new.self.accounts c.mark.new.self.running c.mark.ensures.accounts
+          (bytes-marked c.self.inside c.args.r.now.session c.args.r.now c.stopping.result c.mark.new.self.running c.self.invariant found (ap holding c.stopping.ensures) c.mark.ensures.running);
       journal = c.self.invariant.journal;
       counted = c.self.invariant.counted;
     }
@@ -17,4 +19,5 @@ invariant_of-self c =
 pub returns : goal.returns
 returns c =
     let found = runs-inside c.self.inside c.args.self.now c.args.r.now.session c.args.r.now c.self.view_is c.requires in
-    state-marked c.self.inside c.args.self.now stopping c.args.r.now.session c.args.r.now c.stopping.result c.set_runner.new.running c.self.view_is found c.stopping.ensures c.set_runner.ensures
+    ap (λ (h : Holdings). seen_state (record c.self.inside { runs = record { accounts = h; running = c.mark.new.self.running } })) c.mark.ensures.accounts
+    ∙ state-marked c.self.inside c.args.self.now stopping c.args.r.now.session c.args.r.now c.stopping.result c.mark.new.self.running c.self.view_is found c.stopping.ensures c.mark.ensures.running

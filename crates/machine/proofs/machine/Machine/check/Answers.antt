@@ -1,6 +1,5 @@
-use Rattle.std.proofs.Common.{rules, ◌≡◌, ◌≤◌, sym, ap, ◌∙◌, List, Some, arith}
+use Rattle.std.proofs.Common.{rules, ◌≤◌, sym, ap, ◌∙◌, arith}
 use Rattle.rm_base.specs.declared.limits.TheConstants.{MOMENT_MOST}
-use Rattle.rm_rules.specs.declared.state.Runner.{Runner}
 use Rattle.rm_rules.specs.State.{State, runner_of}
 use Rattle.machine.proofs.Inside.{sound_inside}
 use Rattle.machine.proofs.Running.{running-own}
@@ -9,14 +8,12 @@ use Rattle.machine.proofs.machine.Machine.check.Goals as goal
 
 pub running_time-running-requires-clause-started : goal.running_time-running-requires-clause-started
 running_time-running-requires-clause-started c =
-    let items = c.rows.ensures.rows ∙ ap (λ (s : State). s.running) c.self.view_is in
-    let found : runner_of c.args.self.now.running c.args.x.now.number ≡ Some c.in-Some.r = ap (λ (l : List Runner). runner_of l c.args.x.now.number) (sym items) ∙ sym c.runner_of.ensures ∙ c.in-Some.is in
+    let found = ap (λ (s : State). runner_of s.running c.args.x.now.number) (sym c.self.view_is) ∙ sym c.of.ensures ∙ c.in-Some.is in
     (run-inside c.self.inside c.args.self.now c.args.x.now.number c.in-Some.r c.self.view_is c.requires.timed found).started
 
 pub running_time-running-requires-clause-ran : goal.running_time-running-requires-clause-ran
 running_time-running-requires-clause-ran c =
-    let items = c.rows.ensures.rows ∙ ap (λ (s : State). s.running) c.self.view_is in
-    let found : runner_of c.args.self.now.running c.args.x.now.number ≡ Some c.in-Some.r = ap (λ (l : List Runner). runner_of l c.args.x.now.number) (sym items) ∙ sym c.runner_of.ensures ∙ c.in-Some.is in
+    let found = ap (λ (s : State). runner_of s.running c.args.x.now.number) (sym c.self.view_is) ∙ sym c.of.ensures ∙ c.in-Some.is in
     let ran = (run-inside c.self.inside c.args.self.now c.args.x.now.number c.in-Some.r c.self.view_is c.requires.timed found).ran in
     let most : c.in-Some.r.start ≤ MOMENT_MOST = search rules in
     omega (arith, ran, most)
@@ -26,6 +23,5 @@ verdict-requires c = sound_inside c.self.inside c.args.self.now c.self.view_is c
 
 pub send_to-requires-clause-runs : goal.send_to-requires-clause-runs
 send_to-requires-clause-runs c =
-    let items = c.rows.ensures.rows ∙ ap (λ (s : State). s.running) c.self.view_is in
-    let found : runner_of c.args.self.now.running c.args.x.now.number ≡ Some c.in-Some.r = ap (λ (l : List Runner). runner_of l c.args.x.now.number) (sym items) ∙ sym c.runner_of.ensures ∙ c.in-Some.is in
+    let found = ap (λ (s : State). runner_of s.running c.args.x.now.number) (sym c.self.view_is) ∙ sym c.of.ensures ∙ c.in-Some.is in
     running-own c.args.self.now.running c.args.x.now.number c.in-Some.r found

@@ -20,10 +20,10 @@ pub invariant_of-self : goal.invariant_of-self
 invariant_of-self c =
     let m = c.self.inside in
     let new = c.apply.new.definitions in
-    let h : HasDropped m c.args.pool new c.fold_into_general.new.self c.put_sessions_beside.new.sessions c.put_runners_beside.new.running c.transfer.new.self c.remove_count.new.counters = record {
-      accounts = c.fold_into_general.ensures;
-      sessions_are = c.put_sessions_beside.ensures;
-      running_are = c.put_runners_beside.ensures;
+    let h : HasDropped m c.args.pool new c.fold_into_general.new.self.accounts c.put_beside.new.self c.fold_into_general.new.self.running c.transfer.new.self c.remove_count.new.counters = record {
+      accounts = c.fold_into_general.ensures.accounts;
+      sessions_are = c.put_beside.ensures;
+      running_are = c.fold_into_general.ensures.running;
       waiting_are = c.transfer.ensures.items ∙ ap (transferred m.waiting c.args.pool) c.goes_before-front.ensures;
       counters_are = c.remove_count.ensures ∙ ap (λ (rows : List PoolRow). without_place rows c.args.pool m.counters) c.rows.ensures.rows;
     } in
@@ -31,7 +31,7 @@ invariant_of-self c =
     let sized = sized_inside m c.args.self.now c.self.view_is c.requires.sized in
     let drops = drop-is m.definitions c.args.pool new c.apply.ensures.changed in
     record {
-      bytes = tied-dropped m c.args.pool new c.fold_into_general.new.self c.put_sessions_beside.new.sessions c.put_runners_beside.new.running c.transfer.new.self c.remove_count.new.counters
+      bytes = tied-dropped m c.args.pool new c.fold_into_general.new.self.accounts c.put_beside.new.self c.fold_into_general.new.self.running c.transfer.new.self c.remove_count.new.counters
           h drops c.self.invariant sound sized;
       journal = c.self.invariant.journal;
       counted = c.self.invariant.counted;
@@ -41,14 +41,14 @@ pub returns-clause-state : goal.returns-clause-state
 returns-clause-state c =
     let m = c.self.inside in
     let new = c.apply.new.definitions in
-    let h : HasDropped m c.args.pool new c.fold_into_general.new.self c.put_sessions_beside.new.sessions c.put_runners_beside.new.running c.transfer.new.self c.remove_count.new.counters = record {
-      accounts = c.fold_into_general.ensures;
-      sessions_are = c.put_sessions_beside.ensures;
-      running_are = c.put_runners_beside.ensures;
+    let h : HasDropped m c.args.pool new c.fold_into_general.new.self.accounts c.put_beside.new.self c.fold_into_general.new.self.running c.transfer.new.self c.remove_count.new.counters = record {
+      accounts = c.fold_into_general.ensures.accounts;
+      sessions_are = c.put_beside.ensures;
+      running_are = c.fold_into_general.ensures.running;
       waiting_are = c.transfer.ensures.items ∙ ap (transferred m.waiting c.args.pool) c.goes_before-front.ensures;
       counters_are = c.remove_count.ensures ∙ ap (λ (rows : List PoolRow). without_place rows c.args.pool m.counters) c.rows.ensures.rows;
     } in
     let sound = sound_inside m c.args.self.now c.self.view_is c.requires.sound in
     let sized = sized_inside m c.args.self.now c.self.view_is c.requires.sized in
-    state-dropped m c.args.self.now c.args.pool new c.fold_into_general.new.self c.put_sessions_beside.new.sessions c.put_runners_beside.new.running c.transfer.new.self c.remove_count.new.counters
+    state-dropped m c.args.self.now c.args.pool new c.fold_into_general.new.self.accounts c.put_beside.new.self c.fold_into_general.new.self.running c.transfer.new.self c.remove_count.new.counters
     c.self.view_is h c.self.invariant sound sized

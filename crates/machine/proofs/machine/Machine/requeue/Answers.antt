@@ -2,7 +2,11 @@ use Rattle.std.proofs.Common.{ap}
 use Rattle.rm_rules.specs.declared.state.Waiter.{Waiter}
 use Rattle.machine.proofs.Inside.{bytes-given}
 use Rattle.machine.proofs.Moving.{runs-inside, run-inside, waits-inside}
+use Rattle.machine.proofs.Running.{once-inside}
 use Rattle.machine.proofs.machine.Machine.requeue.Goals as goal
+
+pub end-requires-clause-once : goal.end-requires-clause-once
+end-requires-clause-once c = once-inside c.self.inside c.args.self.now c.self.view_is c.requires.healthy.numbered
 
 pub requeued-requires-clause-ran : goal.requeued-requires-clause-ran
 requeued-requires-clause-ran c = (run-inside c.self.inside c.args.self.now c.args.r.now.session c.args.r.now c.self.view_is c.requires.healthy.timed c.requires.runs).ran
@@ -23,7 +27,7 @@ pub invariant_of-self : goal.invariant_of-self
 invariant_of-self c =
     let found = runs-inside c.self.inside c.args.self.now c.args.r.now.session c.args.r.now c.self.view_is c.requires.runs in
     record {
-      bytes = bytes-given c.self.inside c.args.self.now c.args.r.now.session c.args.r.now c.give_back.new.self c.remove_runner.new.running c.self.view_is c.self.invariant c.requires.healthy.numbered found c.give_back.ensures.state c.remove_runner.ensures;
+      bytes = bytes-given c.self.inside c.args.self.now c.args.r.now.session c.args.r.now c.end.new.self.accounts c.end.new.self.running c.self.view_is c.self.invariant c.requires.healthy.numbered found c.end.ensures.accounts c.end.ensures.running;
       journal = c.self.invariant.journal;
       counted = c.self.invariant.counted;
     }

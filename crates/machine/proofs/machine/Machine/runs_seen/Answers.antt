@@ -1,7 +1,6 @@
 use Rattle.std.proofs.Common.{◌≡◌, ◌<◌, ◌+◌, ◌++◌, ◌∙◌, ap, sym, List, length, get_or, take, drop, arith}
 use Rattle.rm_base.specs.declared.entry.Account.{Account}
 use Rattle.rm_base.specs.declared.snapshot.RunningSeen.{RunningSeen}
-use Rattle.rm_rules.specs.declared.state.Runner.{Runner}
 use Rattle.rm_rules.specs.State.{State}
 use Rattle.rm_rules.specs.Holdings.{Holdings, holding, holdings, holdings_of}
 use Rattle.rm_rules.specs.Accounting.{account_behind}
@@ -12,21 +11,20 @@ use Rattle.machine.proofs.Running.{account-at}
 use Rattle.machine.proofs.Looking.{unseen, runs-more}
 use Rattle.machine.proofs.machine.Machine.runs_seen.Goals as goal
 
-pub loop-r-preserved : goal.loop-r-preserved
-loop-r-preserved c =
+pub loop-i-preserved : goal.loop-i-preserved
+loop-i-preserved c =
     let s = c.args.self.now in
-    let i = c.loop-r.r-index in
-    let r = c.r-item.result in
-    let items = c.rows-r-items.ensures.rows ∙ ap (λ (t : State). t.running) c.self.view_is in
-    let at : r ≡ get_or s.running i r = c.r-item.is ∙ ap (λ (l : List Runner). get_or l i r) items in
-    let within : i < length s.running = omega (arith, c.loop-r-test.true, ap (λ (l : List Runner). length l) items) in
+    let i = c.loop-i.i in
+    let r = c.at-r.result in
+    let at : r ≡ get_or s.running i r = c.at-r.ensures ∙ ap (λ (t : State). get_or t.running i r) c.self.view_is in
+    let within : i < length s.running = omega (arith, c.loop-i-test.true, c.len.ensures.value, ap (λ (t : State). length t.running) c.self.view_is) in
     let account =
-    c.account_of.ensures ∙ ap (λ (b : Holdings). account_of b r.query) (bytes_inside c.self.inside s c.self.view_is c.self.invariant)
+    c.account_of.ensures ∙ ap (λ (b : Holdings). account_of b r.query) c.accounts-accounts.ensures ∙ ap (λ (b : Holdings). account_of b r.query) (bytes_inside c.self.inside s c.self.view_is c.self.invariant)
     ∙ account-at s i r c.requires within at in
     let is : c.running_seen.result ≡ running_seen (r, account_behind (holdings_of s) (holdings (take i s.running)) (holding r)) =
     c.running_seen.ensures ∙ ap (λ (a : Account). running_seen (r, a)) account in (
-      c.loop-r.invariant.0 ∙ runs-more (holdings_of s) s.running i r c.loop-r.seen.items c.running_seen.result within at is
+      c.loop-i.invariant.0 ∙ runs-more (holdings_of s) s.running i r c.loop-i.seen.items c.running_seen.result within at is
           ∙ ap (λ (l : List RunningSeen). l ++ unseen (holdings_of s) (holdings (take (i + 1) s.running)) (drop (i + 1) s.running)) (sym c.push_reserved.ensures.items),
-      omega (arith, c.push_reserved.ensures.len, c.loop-r.invariant.1),
-      c.push_reserved.ensures.capacity ∙ c.loop-r.invariant.2,
+      omega (arith, c.push_reserved.ensures.len, c.loop-i.invariant.1),
+      c.push_reserved.ensures.capacity ∙ c.loop-i.invariant.2,
     )

@@ -6,9 +6,9 @@ use Rattle.machine.specs.Looked.{running_seen}
 use Rattle.machine.proofs.Looking.{unseen}
 use Rattle.machine.proofs.machine.Machine.runs_seen.Given as goal
 
-abbrev pub invariant-loop-r : goal.invariant-loop-r
-invariant-loop-r l =
+abbrev pub invariant-loop-i : goal.invariant-loop-i
+invariant-loop-i l =
     (map running_seen (zip l.self.running (accounts (holdings_of l.self)))
-    ≡ l.seen.items ++ unseen (holdings_of l.self) (holdings (take l.r-index l.self.running)) (drop l.r-index l.self.running))
-    × (vec_len l.seen ≡ l.r-index)
+    ≡ l.seen.items ++ unseen (holdings_of l.self) (holdings (take l.i l.self.running)) (drop l.i l.self.running))
+    × (vec_len l.seen ≡ l.i)
     × (vec_capacity l.seen ≡ length l.self.running)

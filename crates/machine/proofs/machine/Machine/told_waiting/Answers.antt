@@ -1,4 +1,4 @@
-use Rattle.std.proofs.Common.{◌≡◌, ℕ, ◌∙◌, ap, sym, List, Option, Some}
+use Rattle.std.proofs.Common.{◌≡◌, ℕ, ◌∙◌, ap, sym, Option, Some}
 use Rattle.std.specs.Option.{unwrap_or}
 use Rattle.rm_base.specs.declared.reply.Reply.{Reply}
 use Rattle.rm_base.specs.declared.reply.Reply.TheVariants as reply
@@ -13,8 +13,7 @@ pub returns : goal.returns
 returns c =
     let s = c.args.self.now in
     let w = c.in-Some.w in
-    let items = c.waiters.ensures.items ∙ ap (λ (t : State). t.waiting) c.self.view_is in
-    let found : waiter_of s.waiting c.args.session ≡ Some w = ap (λ (l : List Waiter). waiter_of l c.args.session) (sym items) ∙ sym c.waiter_of.ensures ∙ c.in-Some.is in
+    let found : waiter_of s.waiting c.args.session ≡ Some w = ap (λ (t : State). waiter_of t.waiting c.args.session) (sym c.self.view_is) ∙ sym c.waiter_of.ensures ∙ c.in-Some.is in
     let placed = place-waiting s c.args.session w c.requires.in_phase c.requires.numbered found in
     let place =
     c.unwrap_or.ensures

@@ -1,52 +1,37 @@
-use Rattle.std.proofs.Common.{List, find, ap, sym, ◌∙◌}
+use Rattle.std.proofs.Common.{not, List, ap, ◌∙◌}
 use Rattle.std.specs.List.{list_all}
 use Rattle.rm_rules.specs.declared.state.Waiter.{Waiter}
 use Rattle.rm_rules.specs.Sound.{has_pool}
-use Rattle.rm_rules.specs.Admission.{heads}
+use Rattle.rm_rules.specs.Admission.{first_in_queue}
+use Rattle.pool_queue.specs.declared.lines.Arrived.{Arrived}
+use Rattle.pool_queue.specs.declared.lines.Line.{Line}
 use Rattle.pool_queue.specs.declared.heads.Candidates.{Candidates}
-use Rattle.pool_queue.specs.declared.heads.Head.{Head}
-use Rattle.pool_queue.specs.Heads.{with_head, entitled}
-use Rattle.pool_queue.specs.Queue.{is_large}
-use Rattle.pool_queue.proofs.Places.{all-at, none-at}
-use Rattle.pool_queue.proofs.Scan.{candidates_of, merged, skips, takes, none-merged, merged-none, entitled-candidates}
+use Rattle.pool_queue.specs.Heads.{entitled, heads_of, candidates_of}
+use Rattle.pool_queue.specs.Queue.{is_large, query_of}
+use Rattle.pool_queue.proofs.Scan.{entitled-lines, heads-pass, none-passes}
 use Rattle.pool_queue.proofs.waiting.Queue.first_entitled.Goals as goal
 
-pub loop-i-init : goal.loop-i-init
-loop-i-init g c =
-    let all = candidates_of c.args.definitions.now (g.R.Room.holdings c.args.room.now) (heads c.args.self.now) in
-    ap (λ (x : Candidates). merged x all) c.none-candidates.ensures ∙ none-merged all
-
-pub loop-i-preserved-then-has_earlier : goal.loop-i-preserved-then-has_earlier
-loop-i-preserved-then-has_earlier g c =
+pub heads_seen-requires-clause-known : goal.heads_seen-requires-clause-known
+heads_seen-requires-clause-known g c =
     let d = c.args.definitions.now in
-    let k = g.R.Room.holdings c.args.room.now in
-    skips d k c.loop-i.candidates (candidates_of d k (heads c.args.self.now)) c.args.self.now c.waiters-waiting.result.now c.loop-i.i c.index-waiting-i.result
-    c.waiters-waiting.ensures.items c.loop-i-test.true c.index-waiting-i.is (sym c.has_earlier.ensures ∙ c.if-has_earlier.true) c.loop-i.invariant
+    ap (λ (ls : List Line). list_all (λ (a : Arrived). has_pool d a.waiter.pool) (heads_of ls)) c.deref.ensures.value
+    ∙ heads-pass (λ (w : Waiter). has_pool d w.pool) c.self.inside.lines.items c.self.invariant.ordered
+    (ap (λ (ws : List Waiter). list_all (λ (w : Waiter). has_pool d w.pool) ws) c.self.view_is ∙ c.requires.known)
 
-pub head_of-requires-clause-known : goal.head_of-requires-clause-known
-head_of-requires-clause-known g c =
-    let test = λ (w : Waiter). has_pool c.args.definitions.now w.pool in
-    all-at test c.waiters-waiting.result.now c.loop-i.i c.index-waiting-i.result c.loop-i-test.true c.index-waiting-i.is
-    (ap (λ (xs : List Waiter). list_all test xs) c.waiters-waiting.ensures.items ∙ c.requires.known)
-
-pub head_of-requires-clause-small : goal.head_of-requires-clause-small
-head_of-requires-clause-small g c =
-    let test = is_large c.args.definitions.now in
-    none-at test c.waiters-waiting.result.now c.loop-i.i c.index-waiting-i.result c.loop-i-test.true c.index-waiting-i.is
-    (ap (λ (xs : List Waiter). find test xs) c.waiters-waiting.ensures.items ∙ c.requires.small)
-
-pub loop-i-preserved : goal.loop-i-preserved
-loop-i-preserved g c =
+pub heads_seen-requires-clause-small : goal.heads_seen-requires-clause-small
+heads_seen-requires-clause-small g c =
     let d = c.args.definitions.now in
-    let k = g.R.Room.holdings c.args.room.now in
-    takes d k c.loop-i.candidates c.with-candidates.result (candidates_of d k (heads c.args.self.now)) c.args.self.now c.waiters-waiting.result.now c.loop-i.i c.index-waiting-i.result
-    c.waiters-waiting.ensures.items c.loop-i-test.true c.index-waiting-i.is (sym c.has_earlier.ensures ∙ c.if-has_earlier.false)
-    (c.with-candidates.ensures ∙ ap (λ (h : Head). with_head c.loop-i.candidates h) c.head_of.ensures) c.loop-i.invariant
+    ap (λ (ls : List Line). list_all (λ (a : Arrived). not (is_large d a.waiter)) (heads_of ls)) c.deref.ensures.value
+    ∙ heads-pass (λ (w : Waiter). not (is_large d w)) c.self.inside.lines.items c.self.invariant.ordered
+    (ap (λ (ws : List Waiter). list_all (λ (w : Waiter). not (is_large d w)) ws) c.self.view_is ∙ none-passes (is_large d) c.args.self.now c.requires.small)
 
 pub returns : goal.returns
 returns g c =
     let d = c.args.definitions.now in
     let k = g.R.Room.holdings c.args.room.now in
-    let all = candidates_of d k (heads c.args.self.now) in
-    let whole = merged-none d k c.loop-i.candidates all c.args.self.now c.waiters-waiting.result.now c.loop-i.i c.waiters-waiting.ensures.items c.loop-i-test.false c.loop-i.invariant in
-    record { value = c.entitled.ensures ∙ ap (λ (x : Candidates). entitled x) whole ∙ entitled-candidates d k (heads c.args.self.now) }
+    record {
+      value = c.entitled.ensures
+          ∙ ap (λ (x : Candidates). entitled x) (c.heads_seen.ensures ∙ ap (λ (ls : List Line). candidates_of d k (heads_of ls)) c.deref.ensures.value)
+          ∙ entitled-lines d k c.self.inside.lines.items c.self.invariant.ordered
+          ∙ ap (λ (ws : List Waiter). query_of (first_in_queue d k ws)) c.self.view_is;
+    }
